@@ -1,0 +1,196 @@
+-- Every number of an accepted job is in its range.
+use mathlib.Core.Path.{_≡_, refl, ap, subst}
+use mathlib.Core.Logic.{_↔_}
+use mathlib.Core.Bool.{Bool, true, false, cond, _&&_}
+use mathlib.Core.List.{List, [], _∷_}
+use mathlib.Core.Option.{Option, none, some}
+use Prim.Native.Nat.{ℕ, zero, suc, _+_, _≤_, _<_}
+use native.Mathlib.Omega.{arith}
+use lib.Dec.{T, eqb, leb, leb→le, ltb→lt}
+use lib.ListN.{length, getD}
+use Rattle.reach.specs.Lists.{All}
+use Rattle.reach.specs.ListLaws.{all-imp, all-getD}
+use Rattle.rules.specs.Limits.{values, longest-thread}
+use Rattle.rules.specs.Job.{Job}
+use Rattle.rules.specs.Step.{given}
+use Rattle.rules.specs.Tests.{both-iff}
+use Rattle.rules.specs.File.{Read, got, fault, Reader, after, _>>=_, done, times, judged, byte, item, field, in-range, capacity-of}
+use Rattle.rules.specs.File.{register-ok, zero-ok, instruction-of, instruction, thread, clause-of, clause, ended, fields}
+use Rattle.rules.specs.File.{length-ok, Decoded, accepted, refused, verdict, decode}
+use Rattle.rules.specs.Sound.{InstrIn, ClauseIn, CapacityIn, JobIn}
+use Rattle.rules.specs.declared.Model.{Model}
+use Rattle.rules.specs.declared.Model.the-variants.{Sc, Tso, Pso}
+use Rattle.rules.specs.declared.Instr.{Instr}
+
+-- Readers that give only values with a property; where there is no value, nothing is asked. Data types, since antt reads P off them.
+data IfSome {A : Type 0} (P : A → Type 0) : Option A → Type 0 where
+  of-none : IfSome P none
+  of-some : {a : A} → P a → IfSome P (some a)
+
+data IfGot {A : Type 0} (P : A → Type 0) : Read A → Type 0 where
+  of-fault : {number offset : ℕ} → IfGot P (fault number offset)
+  of-got : {a : A} {next : ℕ} → P a → IfGot P (got a next)
+
+abbrev Gives : {A : Type 0} → (A → Type 0) → Reader A → Type 0
+Gives P r = (at : ℕ) → IfGot P (r at)
+
+module _ {A : Type 0} {P : A → Type 0} where
+  gives-map : {Q : A → Type 0} {r : Reader A} → ((a : A) → P a → Q a) → Gives P r → Gives Q r
+  gives-map {Q} {r} f h at = go (r at) (h at)
+    where
+      go : (x : Read A) → IfGot P x → IfGot Q x
+      go x of-fault = of-fault
+      go x (of-got {a} p) = of-got (f a p)
+
+  then-gives : {B : Type 0} {Q : B → Type 0} {r : Reader A} {f : A → Reader B} →
+      Gives P r → ((a : A) → P a → Gives Q (f a)) → Gives Q (r >>= f)
+  unfolding _>>=_ after
+  then-gives {B} {Q} {r} {f} h k at = go (r at) (h at)
+    where
+      go : (x : Read A) → IfGot P x → IfGot Q (after x f)
+      go x of-fault = of-fault
+      go x (of-got {a} {next} p) = k a p next
+
+  cond-got : (b : Bool) {x y : Read A} → IfGot P x → IfGot P y → IfGot P (cond b x y)
+  cond-got true p q = p
+  cond-got false p q = q
+
+module _ {A : Type 0} {P : A → Type 0} where
+  times-gives : (k : ℕ) {r : Reader A} → Gives P r → Gives (λ l. (length l ≡ k) × All P l) (times k r)
+  unfolding times done
+  times-gives zero h = λ at. of-got (refl, tt)
+  times-gives (suc k) h = then-gives h λ a p. then-gives (times-gives k h) λ l q at. of-got (ap suc (q .0), (p, q .1))
+
+  item-gives : (bytes : List ℕ) (size number : ℕ) {value : ℕ → Option A} →
+      ((at : ℕ) → IfSome P (value at)) → Gives P (item bytes size number value)
+  unfolding item judged
+  item-gives bytes size number {value} h at = cond-got (leb (at + size) (length bytes)) (go (value at) (h at)) of-fault
+    where
+      go : (o : Option A) → IfSome P o → IfGot P (judged number at (at + size) o)
+      go o of-none = of-fault
+      go o (of-some p) = of-got p
+
+  ended-gives : (bytes : List ℕ) (a : A) → P a → Gives P (ended bytes a)
+  unfolding ended
+  ended-gives bytes a p at = cond-got (eqb at (length bytes)) (of-got p) of-fault
+
+-- The tables of the file. A value of which nothing is asked:
+anything : {A : Type 0} (o : Option A) → IfSome (λ a. Unit {0}) o
+anything none = of-none
+anything (some a) = of-some tt
+
+module _ {A : Type 0} {P : A → Type 0} where
+  none-iff : IfSome P none ↔ Unit {0}
+  none-iff = (λ h. tt, λ h. of-none)
+
+  given-iff : (b : Bool) (a : A) → IfSome P (given b a) ↔ (T b → P a)
+  given-iff true a = (λ h k. go h, λ h. of-some (h tt))
+    where
+      go : IfSome P (some a) → P a
+      go (of-some p) = p
+  given-iff false a = (λ h k. absurd k, λ h. of-none)
+
+-- of a row of a table `row` leaves that the tests give the ranges, and `tests` lets omega prove that
+ruleset row = (none-iff, given-iff, both-iff)
+
+ruleset tests = (arith, ltb→lt, leb→le)
+
+-- a family at each number below k, and at all the others: so that one line proves every row of a table
+abbrev Rows : ℕ → (ℕ → Type 0) → Type 0
+Rows zero F = (i : ℕ) → F i
+Rows (suc k) F = F 0 × Rows k (λ i. F (suc i))
+
+by-rows : (k : ℕ) (F : ℕ → Type 0) → Rows k F → (i : ℕ) → F i
+by-rows zero F h i = h i
+by-rows (suc k) F h zero = h .0
+by-rows (suc k) F h (suc i) = by-rows k (λ j. F (suc j)) (h .1) i
+
+range-in : (low high k : ℕ) → IfSome (λ x. (low ≤ x) × (x ≤ high)) (in-range low high k)
+unfolding in-range
+range-in low high k = simp row (omega tests)
+
+capacity-in : (m : Model) (k : ℕ) → IfSome (CapacityIn m) (capacity-of m k)
+unfolding capacity-of in-range
+capacity-in Sc k = simp row (omega tests)
+capacity-in Tso k = simp row (omega tests)
+capacity-in Pso k = simp row (omega tests)
+
+instruction-in : (vars n a b c : ℕ) → c < values → (op : ℕ) → IfSome (InstrIn vars n) (instruction-of vars n op a b c)
+unfolding instruction-of register-ok zero-ok
+instruction-in vars n a b c h = by-rows 10 _ (simp row (omega tests))
+
+clause-in : (vars : ℕ) (threads : List (List Instr)) (a b c : ℕ) → c < values →
+    (kind : ℕ) → IfSome (ClauseIn vars threads) (clause-of vars threads kind a b c)
+unfolding clause-of register-ok zero-ok
+clause-in vars threads a b c h = by-rows 4 _ (simp row (omega tests))
+
+-- JobIn's two demands on a thread, as one
+abbrev ThreadIn : ℕ → List Instr → Type 0
+ThreadIn vars code = (length code ≤ longest-thread) × All (InstrIn vars (length code)) code
+
+-- The file, field by field.
+module _ (bytes : List ℕ) (small : All (λ k. k < values) bytes) where
+  -- also past the end, where 0 stands for a byte
+  byte-in : (at : ℕ) → byte bytes at < values
+  unfolding byte
+  byte-in at = all-getD (λ k. k < values) bytes at 0 small (omega arith)
+
+  field-gives : {A : Type 0} {P : A → Type 0} (number : ℕ) {value : ℕ → Option A} →
+      ((k : ℕ) → k < values → IfSome P (value k)) → Gives P (field bytes number value)
+  unfolding field
+  field-gives number h = item-gives bytes 1 number λ at. h (byte bytes at) (byte-in at)
+
+  range-gives : (number low high : ℕ) → Gives (λ k. (low ≤ k) × (k ≤ high)) (field bytes number (in-range low high))
+  range-gives number low high = field-gives number λ k h. range-in low high k
+
+  thread-gives : (vars : ℕ) → Gives (ThreadIn vars) (thread bytes vars)
+  unfolding thread instruction
+  thread-gives vars =
+      then-gives (range-gives _ _ _) λ n most.
+      gives-map (λ code h. (omega arith, rw (h .0) (h .1)))
+      (times-gives n (item-gives bytes _ _ λ at. instruction-in vars n _ _ _ (byte-in (at + 3)) (byte bytes at)))
+
+  fields-give : Gives JobIn (fields bytes)
+  unfolding fields clause
+  fields-give =
+      then-gives (range-gives _ _ _) λ version _.
+      then-gives (field-gives _ λ k h. anything _) λ model _.
+      then-gives (field-gives _ λ k h. capacity-in model k) λ capacity capacity-is.
+      then-gives (range-gives _ _ _) λ count count-is.
+      then-gives (range-gives _ _ _) λ vars vars-is.
+      then-gives (times-gives vars (field-gives _ λ k h. of-some h)) λ initial initial-is.
+      then-gives (times-gives count (thread-gives vars)) λ threads threads-are.
+      then-gives (field-gives _ λ k h. anything _) λ flag _.
+      then-gives (range-gives _ _ _) λ K K-is.
+      then-gives
+      (times-gives K (item-gives bytes _ _ λ at. clause-in vars threads _ _ _ (byte-in (at + 3)) (byte bytes at)))
+      λ clauses clauses-are.
+      ended-gives bytes _
+      (record {
+        capacity = capacity-is;
+        threads-least = omega arith;
+        threads-most = omega arith;
+        variables-least = omega arith;
+        variables-most = omega arith;
+        initial = initial-is .1;
+        lengths = all-imp _ _ (λ code h. h .0) threads (threads-are .1);
+        instructions = rw (initial-is .0) (all-imp _ _ (λ code h. h .1) threads (threads-are .1));
+        clauses-most = omega arith;
+        clauses = rw (initial-is .0) (clauses-are .1);
+      })
+
+-- a function here, so that `subst` carries it along the equation
+abbrev IfAccepted : (Job → Type 0) → Decoded → Type 0
+IfAccepted P (accepted j) = P j
+IfAccepted P (refused number offset) = Unit {0}
+
+verdict-in : (b : Bool) (x : Read Job) → IfGot JobIn x → IfAccepted JobIn (cond b (verdict x) (refused 1 0))
+unfolding verdict
+verdict-in false x h = tt
+verdict-in true x of-fault = tt
+verdict-in true x (of-got p) = p
+
+pub accepted-in : (bytes : List ℕ) → All (λ k. k < values) bytes → (j : Job) → decode bytes ≡ accepted j → JobIn j
+unfolding decode
+accepted-in bytes small j e =
+    subst (IfAccepted JobIn) e (verdict-in (length-ok bytes) (fields bytes 2) (fields-give bytes small 2))

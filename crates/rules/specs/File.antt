@@ -1,0 +1,162 @@
+-- The job file, and the refusals in their order: 01, "Job file" and "Refusal numbers and their order".
+use mathlib.Core.Bool.{Bool, true, false, cond, _&&_}
+use mathlib.Core.List.{List, [], _∷_}
+use mathlib.Core.Option.{Option, none, some}
+use Prim.Native.Nat.{ℕ, zero, suc, _+_, _*_}
+use lib.Dec.{eqb, ltb, leb}
+use lib.ListN.{length, getD}
+use Rattle.rules.specs.Limits.{most-threads, most-variables, registers-each, longest-thread, most-pending, most-clauses, longest-file}
+use Rattle.rules.specs.Job.{Job}
+use Rattle.rules.specs.Step.{given}
+use Rattle.rules.specs.declared.Model.{Model}
+use Rattle.rules.specs.declared.Model.the-variants.{Sc, Tso, Pso}
+use Rattle.rules.specs.declared.Source.the-variants.{Register as FromRegister, Constant}
+use Rattle.rules.specs.declared.Instr.{Instr}
+use Rattle.rules.specs.declared.Instr.the-variants.{Set, Add, Load, Store, Fence, Xchg, Jeq, Jmp}
+use Rattle.rules.specs.declared.Clause.{Clause}
+use Rattle.rules.specs.declared.Clause.the-variants.{Place, Register, Memory}
+
+-- what reading gives: a value and the offset of the next item, or the first fault's number and offset
+pub data Read (A : Type 0) : Type 0 where
+  got : A → (next : ℕ) → Read A
+  fault : (number offset : ℕ) → Read A
+
+-- a reader begins at an offset
+abbrev pub Reader : Type 0 → Type 0
+Reader A = ℕ → Read A
+
+unfoldable pub after : {A B : Type 0} → Read A → (A → Reader B) → Read B
+after (got a at) f = f a at
+after (fault number offset) f = fault number offset
+
+-- "then fields from the front, the first fault winning"
+infixl 1 _>>=_
+unfoldable pub _>>=_ : {A B : Type 0} → Reader A → (A → Reader B) → Reader B
+(r >>= f) at = after (r at) f
+
+unfoldable pub done : {A : Type 0} → A → Reader A
+done a at = got a at
+
+-- k items, one after another
+unfoldable pub times : {A : Type 0} → ℕ → Reader A → Reader (List A)
+times zero r = done []
+times (suc k) r = r >>= λ a. times k r >>= λ l. done (a ∷ l)
+
+unfoldable pub judged : {A : Type 0} → (number offset next : ℕ) → Option A → Read A
+judged number offset next none = fault number offset
+judged number offset next (some a) = got a next
+
+-- What the fields hold.
+
+-- "model, C, T or V out of range"
+unfoldable pub model-of : ℕ → Option Model
+model-of k = getD (some Sc ∷ some Tso ∷ some Pso ∷ []) k none
+
+unfoldable pub in-range : (low high : ℕ) → ℕ → Option ℕ
+in-range low high k = given (leb low k && leb k high) k
+
+-- "SC (model 0, C must be 0)", "TSO (model 1, C is 1 to 8)", "PSO (model 2, C is 1 to 8)"
+unfoldable pub capacity-of : Model → ℕ → Option ℕ
+capacity-of Sc = in-range 0 0
+capacity-of Tso = in-range 1 most-pending
+capacity-of Pso = in-range 1 most-pending
+
+-- "r is 0 to 3, v below V, p from 0 to n"; "Bytes marked 0 must be 0."
+unfoldable pub register-ok : ℕ → Bool
+register-ok r = ltb r registers-each
+
+unfoldable pub zero-ok : ℕ → Bool
+zero-ok k = eqb k 0
+
+-- the table of operations by number. "Nine operation numbers have a meaning; each other byte, 0 included, is refused."
+unfoldable pub instruction-of : (vars n op a b c : ℕ) → Option Instr
+instruction-of vars n op a b c =
+    getD
+    (none
+    ∷ given (register-ok a && zero-ok b) (Set a c)
+    ∷ given (register-ok a && zero-ok b) (Add a c)
+    ∷ given (register-ok a && ltb b vars && zero-ok c) (Load a b)
+    ∷ given (register-ok a && ltb b vars && zero-ok c) (Store (FromRegister a) b)
+    ∷ given (zero-ok a && ltb b vars) (Store (Constant c) b)
+    ∷ given (zero-ok a && zero-ok b && zero-ok c) Fence
+    ∷ given (register-ok a && ltb b vars && zero-ok c) (Xchg a b)
+    ∷ given (register-ok a && leb b n) (Jeq a b c)
+    ∷ given (zero-ok a && leb b n && zero-ok c) (Jmp b)
+    ∷ [])
+    op none
+
+-- the flag: "0 any buffers, 1 all buffers empty"
+unfoldable pub flag-of : ℕ → Option Bool
+flag-of k = getD (some false ∷ some true ∷ []) k none
+
+-- "(1, t, 0, p) .. p from 0 to its n; (2, t, r, k) ..; (3, v, 0, k) ..; t below T, r 0 to 3, v below V, any other clause is bad"
+unfoldable pub clause-of : (vars : ℕ) → List (List Instr) → (kind a b c : ℕ) → Option Clause
+clause-of vars threads kind a b c =
+    getD
+    (none
+    ∷ given (ltb a (length threads) && zero-ok b && leb c (length (getD threads a []))) (Place a c)
+    ∷ given (ltb a (length threads) && register-ok b) (Register a b c)
+    ∷ given (ltb a vars && zero-ok b) (Memory a c)
+    ∷ [])
+    kind none
+
+-- The file.
+
+module _ (bytes : List ℕ) where
+  unfoldable pub byte : ℕ → ℕ
+  byte at = getD bytes at 0
+
+  -- "of each item whether it is wholly there before what it holds": refusal 6, else the item's own number, both where it begins
+  unfoldable pub item : {A : Type 0} → (size number : ℕ) → (ℕ → Option A) → Reader A
+  item size number value at =
+      cond (leb (at + size) (length bytes)) (judged number at (at + size) (value at)) (fault 6 at)
+
+  -- an item of one byte
+  unfoldable pub field : {A : Type 0} → (number : ℕ) → (ℕ → Option A) → Reader A
+  field number value = item 1 number (λ at. value (byte at))
+
+  unfoldable pub instruction : (vars n : ℕ) → Reader Instr
+  instruction vars n = item 4 4 (λ at. instruction-of vars n (byte at) (byte (at + 1)) (byte (at + 2)) (byte (at + 3)))
+
+  -- "per thread: n, then instructions"
+  unfoldable pub thread : (vars : ℕ) → Reader (List Instr)
+  thread vars = field 4 (in-range 0 longest-thread) >>= λ n. times n (instruction vars n)
+
+  unfoldable pub clause : (vars : ℕ) → List (List Instr) → Reader Clause
+  clause vars threads = item 4 5 (λ at. clause-of vars threads (byte at) (byte (at + 1)) (byte (at + 2)) (byte (at + 3)))
+
+  -- "or bytes are left over": refusal 6 at the first byte left over
+  unfoldable pub ended : {A : Type 0} → A → Reader A
+  ended a at = cond (eqb at (length bytes)) (got a at) (fault 6 at)
+
+  -- the fields in their order, from the version on
+  unfoldable pub fields : Reader Job
+  fields =
+      field 2 (in-range 1 1) >>= λ version.
+      field 3 model-of >>= λ model.
+      field 3 (capacity-of model) >>= λ capacity.
+      field 3 (in-range 1 most-threads) >>= λ count.
+      field 3 (in-range 1 most-variables) >>= λ vars.
+      times vars (field 6 some) >>= λ initial.
+      times count (thread vars) >>= λ threads.
+      field 5 flag-of >>= λ flag.
+      field 5 (in-range 0 most-clauses) >>= λ K.
+      times K (clause vars threads) >>= λ clauses.
+      ended (record { model = model; capacity = capacity; initial = initial; threads = threads; all-empty = flag; clauses = clauses })
+
+  -- "fewer than 3 bytes, more than 597, or length wrong"; the length is the "number of bytes that follow", big-endian
+  unfoldable pub length-ok : Bool
+  length-ok = leb 3 (length bytes) && leb (length bytes) longest-file && eqb (byte 0 * 256 + byte 1 + 2) (length bytes)
+
+-- what a job's bytes are: a job, or the refusal's number and offset
+pub data Decoded : Type 0 where
+  accepted : Job → Decoded
+  refused : (number offset : ℕ) → Decoded
+
+unfoldable pub verdict : Read Job → Decoded
+verdict (got j at) = accepted j
+verdict (fault number offset) = refused number offset
+
+-- "1 is judged first"
+unfoldable pub decode : List ℕ → Decoded
+decode bytes = cond (length-ok bytes) (verdict (fields bytes 2)) (refused 1 0)

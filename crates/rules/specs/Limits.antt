@@ -1,0 +1,48 @@
+-- The numbers of 01 that later requests move, each named once.
+use Prim.Native.Nat.{ℕ, _+_, _*_}
+
+-- "T threads (1 to 4), V shared variables (1 to 8), 4 registers a thread, all values 0 to 255"
+abbrev pub most-threads : ℕ
+most-threads = 4
+
+abbrev pub most-variables : ℕ
+most-variables = 8
+
+abbrev pub registers-each : ℕ
+registers-each = 4
+
+abbrev pub values : ℕ
+values = 256
+
+-- "A thread has n instructions (0 to 32)"
+abbrev pub longest-thread : ℕ
+longest-thread = 32
+
+-- "TSO (model 1, C is 1 to 8)", "PSO (model 2, C is 1 to 8)"
+abbrev pub most-pending : ℕ
+most-pending = 8
+
+-- "K at most 16"
+abbrev pub most-clauses : ℕ
+most-clauses = 16
+
+-- "The longest file is 597 bytes": length, version, four numbers, the variables, the threads, flag, K, the clauses
+abbrev pub longest-file : ℕ
+longest-file = 2 + 1 + 4 + most-variables + most-threads * (1 + 4 * longest-thread) + 1 + 1 + 4 * most-clauses
+
+abbrev pub all-registers : ℕ
+all-registers = most-threads * registers-each
+
+-- "Slot layout: bytes 0-3 places; 4-19 registers, thread by thread; 20-27 memory; then 17 bytes a thread: count, and eight pairs"
+abbrev pub pairs-size : ℕ
+pairs-size = 2 * most-pending
+
+abbrev pub buffer-size : ℕ
+buffer-size = 1 + pairs-size
+
+abbrev pub slot-size : ℕ
+slot-size = most-threads + all-registers + most-variables + most-threads * buffer-size
+
+-- "t (0 to 3) executes one instruction of thread t; 4 + 8t + v flushes thread t's store to v": step numbers end before 36
+abbrev pub step-bound : ℕ
+step-bound = most-threads + most-threads * most-variables

@@ -1,0 +1,82 @@
+-- What holds of every job whose bytes are accepted, and of every state that such a job reaches.
+use mathlib.Core.Path.{_≡_}
+use mathlib.Core.List.{List, []}
+use Prim.Native.Nat.{ℕ, _≤_, _<_}
+use lib.ListN.{length, getD}
+use Rattle.reach.specs.Lists.{All, Pairwise}
+use Rattle.rules.specs.Limits.{most-threads, most-variables, registers-each, all-registers, values, longest-thread, most-pending, most-clauses}
+use Rattle.rules.specs.State.{Pending, State, place, register, variable, buffer}
+use Rattle.rules.specs.Job.{Job}
+use Rattle.rules.specs.declared.Model.{Model}
+use Rattle.rules.specs.declared.Model.the-variants.{Sc, Tso, Pso}
+use Rattle.rules.specs.declared.Source.{Source}
+use Rattle.rules.specs.declared.Source.the-variants.{Register as FromRegister, Constant}
+use Rattle.rules.specs.declared.Instr.{Instr}
+use Rattle.rules.specs.declared.Instr.the-variants.{Set, Add, Load, Store, Fence, Xchg, Jeq, Jmp}
+use Rattle.rules.specs.declared.Clause.{Clause}
+use Rattle.rules.specs.declared.Clause.the-variants.{Place, Register, Memory}
+
+-- "Here r is 0 to 3, v below V, p from 0 to n"; constants are values
+abbrev pub SourceIn : Source → Type 0
+SourceIn (FromRegister r) = r < registers-each
+SourceIn (Constant k) = k < values
+
+abbrev pub InstrIn : (vars n : ℕ) → Instr → Type 0
+InstrIn vars n (Set r k) = (r < registers-each) × (k < values)
+InstrIn vars n (Add r k) = (r < registers-each) × (k < values)
+InstrIn vars n (Load r v) = (r < registers-each) × (v < vars)
+InstrIn vars n (Store a v) = SourceIn a × (v < vars)
+InstrIn vars n Fence = Unit {0}
+InstrIn vars n (Xchg r v) = (r < registers-each) × (v < vars)
+InstrIn vars n (Jeq r p k) = (r < registers-each) × (p ≤ n) × (k < values)
+InstrIn vars n (Jmp p) = p ≤ n
+
+abbrev pub ClauseIn : (vars : ℕ) → List (List Instr) → Clause → Type 0
+ClauseIn vars threads (Place t p) = (t < length threads) × (p ≤ length (getD threads t []))
+ClauseIn vars threads (Register t r k) = (t < length threads) × (r < registers-each) × (k < values)
+ClauseIn vars threads (Memory v k) = (v < vars) × (k < values)
+
+-- "SC (model 0, C must be 0)"; else 1 to 8
+abbrev pub CapacityIn : Model → ℕ → Type 0
+CapacityIn Sc c = c ≡ 0
+CapacityIn Tso c = (1 ≤ c) × (c ≤ most-pending)
+CapacityIn Pso c = (1 ≤ c) × (c ≤ most-pending)
+
+-- every number of the job is in its range
+pub record JobIn (j : Job) : Type 0 where
+  pub capacity : CapacityIn (j .model) (j .capacity)
+  pub threads-least : 1 ≤ length (j .threads)
+  pub threads-most : length (j .threads) ≤ most-threads
+  pub variables-least : 1 ≤ length (j .initial)
+  pub variables-most : length (j .initial) ≤ most-variables
+  pub initial : All (λ k. k < values) (j .initial)
+  pub lengths : All (λ code. length code ≤ longest-thread) (j .threads)
+  pub instructions : All (λ code. All (InstrIn (length (j .initial)) (length code)) code) (j .threads)
+  pub clauses-most : length (j .clauses) ≤ most-clauses
+  pub clauses : All (ClauseIn (length (j .initial)) (j .threads)) (j .clauses)
+
+-- Under PSO "Pending stores are kept by variable number". Under SC nothing is pending.
+abbrev pub InOrder : Model → List Pending → Type 0
+InOrder Sc b = b ≡ []
+InOrder Tso b = Unit {0}
+InOrder Pso b = Pairwise (λ p q. p .variable ≤ q .variable) b
+
+pub record BufferIn (j : Job) (b : List Pending) : Type 0 where
+  pub count : length b ≤ j .capacity
+  pub variables : All (λ p. p .variable < length (j .initial)) b
+  pub values-in : All (λ p. p .value < values) b
+  pub order : InOrder (j .model) b
+
+-- places at most n, counts at most C, unused parts 0, PSO pairs in order
+pub record WellFormed (j : Job) (x : State) : Type 0 where
+  pub places-number : length (x .places) ≡ most-threads
+  pub registers-number : length (x .registers) ≡ all-registers
+  pub memory-number : length (x .memory) ≡ most-variables
+  pub buffers-number : length (x .buffers) ≡ most-threads
+  pub places : (t : ℕ) → place t x ≤ length (getD (j .threads) t [])
+  pub registers : All (λ k. k < values) (x .registers)
+  pub registers-unused : (t r : ℕ) → length (j .threads) ≤ t → r < registers-each → register t r x ≡ 0
+  pub memory : All (λ k. k < values) (x .memory)
+  pub memory-unused : (v : ℕ) → length (j .initial) ≤ v → variable v x ≡ 0
+  pub buffers : All (BufferIn j) (x .buffers)
+  pub buffers-unused : (t : ℕ) → length (j .threads) ≤ t → buffer t x ≡ []

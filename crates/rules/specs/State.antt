@@ -1,0 +1,67 @@
+-- A machine state: 01, "The machine".
+use mathlib.Core.Bool.{Bool, true, false, _&&_}
+use mathlib.Core.List.{List, [], _∷_}
+use Prim.Native.Nat.{ℕ, _+_, _*_}
+use lib.Dec.{eqb}
+use lib.ListN.{getD, set}
+use Rattle.rules.specs.Limits.{registers-each}
+
+-- a store that waits in a buffer
+pub record Pending : Type 0 where
+  pub variable : ℕ
+  pub value : ℕ
+
+-- "four places, sixteen registers, eight variables and four buffers travel together as one value"; the registers thread by thread
+pub record State : Type 0 where
+  pub places : List ℕ
+  pub registers : List ℕ
+  pub memory : List ℕ
+  pub buffers : List (List Pending)
+
+unfoldable pub place : ℕ → State → ℕ
+place t x = getD (x .places) t 0
+
+unfoldable pub register : ℕ → ℕ → State → ℕ
+register t r x = getD (x .registers) (registers-each * t + r) 0
+
+unfoldable pub variable : ℕ → State → ℕ
+variable v x = getD (x .memory) v 0
+
+unfoldable pub buffer : ℕ → State → List Pending
+buffer t x = getD (x .buffers) t []
+
+-- the state with one part changed
+unfoldable pub with-place : ℕ → ℕ → State → State
+with-place t p x = record { places = set (x .places) t p; registers = x .registers; memory = x .memory; buffers = x .buffers }
+
+unfoldable pub with-register : ℕ → ℕ → ℕ → State → State
+with-register t r k x =
+    record {
+      places = x .places;
+      registers = set (x .registers) (registers-each * t + r) k;
+      memory = x .memory;
+      buffers = x .buffers;
+    }
+
+unfoldable pub with-variable : ℕ → ℕ → State → State
+with-variable v k x = record { places = x .places; registers = x .registers; memory = set (x .memory) v k; buffers = x .buffers }
+
+unfoldable pub with-buffer : ℕ → List Pending → State → State
+with-buffer t b x = record { places = x .places; registers = x .registers; memory = x .memory; buffers = set (x .buffers) t b }
+
+-- the equality test of states
+unfoldable pub same-list : {A : Type 0} → (A → A → Bool) → List A → List A → Bool
+same-list same [] [] = true
+same-list same [] (y ∷ m) = false
+same-list same (x ∷ l) [] = false
+same-list same (x ∷ l) (y ∷ m) = same x y && same-list same l m
+
+unfoldable pub same-pending : Pending → Pending → Bool
+same-pending p q = eqb (p .variable) (q .variable) && eqb (p .value) (q .value)
+
+unfoldable pub same-state : State → State → Bool
+same-state x y =
+    same-list eqb (x .places) (y .places)
+    && same-list eqb (x .registers) (y .registers)
+    && same-list eqb (x .memory) (y .memory)
+    && same-list (same-list same-pending) (x .buffers) (y .buffers)

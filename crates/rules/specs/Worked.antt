@@ -1,0 +1,311 @@
+-- The worked cases of 01's bench list, as one table under one statement about the definitions.
+use mathlib.Core.Path.{_≡_, refl, sym, ap, subst}
+use mathlib.Core.Bool.{Bool, true, false, _&&_}
+use mathlib.Core.List.{List, [], _∷_}
+use mathlib.Core.Option.{Option, none, some}
+use Prim.Native.Nat.{ℕ, suc, _≤_}
+use native.Mathlib.Omega.{arith}
+use lib.Dec.{T, eqb, leb, eqb→eq, leb→le}
+use lib.ListN.{length, set}
+use Rattle.reach.specs.Lists.{All}
+use Rattle.reach.specs.System.{System}
+use Rattle.reach.specs.Meaning.{LeadsTo, AtMost, Reached, Counts, Answer, reachable, unreachable, unknown, Outcome, MeansAt}
+use Rattle.reach.specs.Rows.{start-row, offer-of, offer, offers-below, offers, known, goal-row, keep, keep-new, put-unless, put, put-all}
+use Rattle.reach.specs.Rows.{outcome, by-goal, by-rest, by-room, levels, find}
+use Rattle.reach.specs.Found.{find-means}
+use Rattle.reach.specs.Promise.{Brings, brings, never, Outnumber, unknown-exactly}
+use Rattle.reach.specs.Replay.{Replayed, reaches, falls-short, stuck, ReplayMeans, at-end, replay-from, replay, replay-means}
+use Rattle.rules.specs.State.{State, place, register, variable, buffer, with-place, with-register, with-variable, with-buffer}
+use Rattle.rules.specs.State.{same-list, same-pending, same-state}
+use Rattle.rules.specs.Job.{Job, start}
+use Rattle.rules.specs.Step.{newest, by-variable, joined, take-oldest, behind, take-oldest-to, taken, is-empty, advanced, carried}
+use Rattle.rules.specs.Step.{buffered, stored, executed, execute, flush, next}
+use Rattle.rules.specs.Goal.{every, clause-holds, goal}
+use Rattle.rules.specs.File.{after, _>>=_, done, times, judged, byte, item, field, model-of, in-range, capacity-of, register-ok, zero-ok}
+use Rattle.rules.specs.File.{instruction-of, instruction, thread, flag-of, clause-of, clause, ended, fields, length-ok}
+use Rattle.rules.specs.File.{Decoded, accepted, refused, verdict, decode}
+use Rattle.rules.specs.Tests.{both, three}
+use Rattle.rules.specs.Jobs.{p1, p2, p3, p4, p5, p6, p7, p8, p9, p10, p12, own-newest, fence-waits, exchange, jump-over, either-order, exchange-between, cut, cut-unknown, left-over}
+use Rattle.rules.specs.Machine.{machine, same-list-equal}
+use Rattle.rules.specs.Fences.{onward, onward-at, successors, is-store, is-load, is-fence, Fenced, fenced, open-at, FenceMeans}
+use Rattle.rules.specs.FenceCheck.{move, targets-below, landings, found, leads, or-else, first-below, open-test, open-loads, open-stores}
+use Rattle.rules.specs.FenceCheck.{open-threads, fence-answer, fence-check, fence-check-means}
+
+-- what the list says of a job
+pub data Claim : Type 0 where
+  search-reaches : (states : ℕ) (schedule : List ℕ) → Claim
+  search-never : (states : Option ℕ) → Claim
+  search-unknown : Claim
+  fences-say : Fenced → Claim
+  replay-says : (schedule : List ℕ) → Replayed → Claim
+  refuses : (number offset : ℕ) → Claim
+
+pub record Case : Type 0 where
+  pub slots : ℕ
+  pub bytes : List ℕ
+  pub claim : Claim
+
+abbrev pub case : ℕ → List ℕ → Claim → Case
+case n b c = record { slots = n; bytes = b; claim = c }
+
+-- slots, job, and what 01's list says of it
+unfoldable pub table : List Case
+table =
+    -- P1
+    case 640 p1 (search-reaches 22 (0x00 ∷ 0x00 ∷ 0x01 ∷ 0x01 ∷ []))
+    -- P1 with 22 slots: the same answer
+    ∷ case 22 p1 (search-reaches 22 (0x00 ∷ 0x00 ∷ 0x01 ∷ 0x01 ∷ []))
+    -- with 21: unknown
+    ∷ case 21 p1 search-unknown
+    -- OPEN 0 0 1
+    ∷ case 640 p1 (fences-say (open-at 0 0 1))
+    -- P2: unreachable, 13 states
+    ∷ case 640 p2 (search-never (some 13))
+    -- P3: 6 steps `00 00 01 01 04 0D`, 34 states
+    ∷ case 640 p3 (search-reaches 34 (0x00 ∷ 0x00 ∷ 0x01 ∷ 0x01 ∷ 0x04 ∷ 0x0D ∷ []))
+    -- P4: unreachable, 5 states
+    ∷ case 640 p4 (search-never (some 5))
+    -- P5: 2 steps, 3 states
+    ∷ case 640 p5 (search-reaches 3 (0x00 ∷ 0x00 ∷ []))
+    -- P6: `00 00 05 01 01`
+    ∷ case 640 p6 (search-reaches 25 (0x00 ∷ 0x00 ∷ 0x05 ∷ 0x01 ∷ 0x01 ∷ []))
+    -- P7: unreachable
+    ∷ case 640 p7 (search-never none)
+    -- P8: unreachable
+    ∷ case 640 p8 (search-never none)
+    -- P9: FENCED, unreachable
+    ∷ case 640 p9 (fences-say fenced)
+    ∷ case 640 p9 (search-never none)
+    -- P10: replay `00 00` is stuck at 1
+    ∷ case 640 p10 (replay-says (0x00 ∷ 0x00 ∷ []) (stuck 1))
+    -- P11: replay `24` is stuck at 0
+    ∷ case 640 p10 (replay-says (0x24 ∷ []) (stuck 0))
+    -- P12: 0 steps, 1 state
+    ∷ case 640 p12 (search-reaches 1 [])
+    -- Empty input: REFUSED 1 0
+    ∷ case 640 [] (refuses 1 0)
+    -- `00 01 02`: REFUSED 2 2
+    ∷ case 640 (0x00 ∷ 0x01 ∷ 0x02 ∷ []) (refuses 2 2)
+    -- `00 01 01`: REFUSED 6 3
+    ∷ case 640 (0x00 ∷ 0x01 ∷ 0x01 ∷ []) (refuses 6 3)
+    -- P1 with byte 10 set to 0A: REFUSED 4 10
+    ∷ case 640 (set p1 10 0x0A) (refuses 4 10)
+    -- beyond the list; these counts were worked by a checker written apart, as was the 25 of P6
+    ∷ case 640 own-newest (search-never (some 9))
+    ∷ case 640 fence-waits (search-reaches 4 (0x00 ∷ 0x04 ∷ 0x00 ∷ []))
+    ∷ case 640 exchange (search-reaches 5 (0x00 ∷ 0x00 ∷ 0x04 ∷ 0x00 ∷ []))
+    ∷ case 640 jump-over (search-reaches 3 (0x00 ∷ 0x00 ∷ []))
+    ∷ case 640 either-order (search-never (some 59))
+    ∷ case 640 exchange-between (fences-say fenced)
+    -- an item that is not wholly there is refused as such, whatever it holds
+    ∷ case 640 cut (refuses 6 10)
+    ∷ case 640 cut-unknown (refuses 6 10)
+    ∷ case 640 left-over (refuses 6 45)
+    ∷ []
+
+-- What each claim means: distance, first schedule, counts, never, walks, runs; no computed function is named.
+
+module _ (j : Job) (N : ℕ) where
+  abbrev pub Never : Type 0
+  Never = (w : List ℕ) (x : State) → LeadsTo (machine j) w x → ¬ (T (goal j x))
+
+  abbrev pub Says : Claim → Type 0
+  Says (search-reaches n w) = Brings (machine j) (length w) w × Counts (AtMost (machine j) (length w)) n × (n ≤ N)
+  Says (search-never none) = Never
+  Says (search-never (some n)) = Never × Counts (Reached (machine j)) n × (n ≤ N)
+  Says search-unknown = Outnumber (machine j) N
+  Says (fences-say a) = FenceMeans j a
+  Says (replay-says w a) = ReplayMeans (machine j) w a
+  Says (refuses number offset) = ⊥
+
+-- a refused job has no claim but its refusal
+abbrev pub Meant : ℕ → Claim → Decoded → Type 0
+Meant N m (accepted j) = Says j N m
+Meant N m (refused number offset) = m ≡ refuses number offset
+
+abbrev pub CaseHolds : Case → Type 0
+CaseHolds c = Meant (c .slots) (c .claim) (decode (c .bytes))
+
+-- The test of a claim, computed on lists.
+
+answer-reaches : (d n : ℕ) → Answer → Bool
+answer-reaches d n (reachable e m) = eqb d e && eqb n m
+answer-reaches d n (unreachable m) = false
+answer-reaches d n (unknown m) = false
+
+answer-never : Option ℕ → Answer → Bool
+answer-never n (reachable e m) = false
+answer-never none (unreachable m) = true
+answer-never (some n) (unreachable m) = eqb n m
+answer-never n (unknown m) = false
+
+answer-unknown : Answer → Bool
+answer-unknown (reachable e m) = false
+answer-unknown (unreachable m) = false
+answer-unknown (unknown m) = true
+
+same-fenced : Fenced → Fenced → Bool
+same-fenced fenced fenced = true
+same-fenced fenced (open-at t s l) = false
+same-fenced (open-at t s l) fenced = false
+same-fenced (open-at t s l) (open-at t′ s′ l′) = eqb t t′ && eqb s s′ && eqb l l′
+
+same-replayed : Replayed → Replayed → Bool
+same-replayed reaches reaches = true
+same-replayed reaches falls-short = false
+same-replayed reaches (stuck k) = false
+same-replayed falls-short reaches = false
+same-replayed falls-short falls-short = true
+same-replayed falls-short (stuck k) = false
+same-replayed (stuck i) reaches = false
+same-replayed (stuck i) falls-short = false
+same-replayed (stuck i) (stuck k) = eqb i k
+
+claim-test : Job → ℕ → Claim → Bool
+claim-test j N (search-reaches n w) = leb 1 N && answer-reaches (length w) n (find (machine j) N .answer) && same-list eqb (find (machine j) N .schedule) w
+claim-test j N (search-never n) = leb 1 N && answer-never n (find (machine j) N .answer)
+claim-test j N search-unknown = leb 1 N && answer-unknown (find (machine j) N .answer)
+claim-test j N (fences-say a) = same-fenced (fence-check j) a
+claim-test j N (replay-says w a) = same-replayed (replay (machine j) w) a
+claim-test j N (refuses number offset) = false
+
+refusal-test : (number offset : ℕ) → Claim → Bool
+refusal-test number offset (search-reaches n w) = false
+refusal-test number offset (search-never n) = false
+refusal-test number offset search-unknown = false
+refusal-test number offset (fences-say a) = false
+refusal-test number offset (replay-says w a) = false
+refusal-test number offset (refuses k at) = eqb k number && eqb at offset
+
+decoded-test : ℕ → Claim → Decoded → Bool
+decoded-test N m (accepted j) = claim-test j N m
+decoded-test N m (refused number offset) = refusal-test number offset m
+
+case-test : Case → Bool
+case-test c = decoded-test (c .slots) (c .claim) (decode (c .bytes))
+
+-- The test is right.
+
+module _ (j : Job) (N : ℕ) where
+  means : 1 ≤ N → (a : Answer) → find (machine j) N .answer ≡ a → MeansAt (machine j) N a (find (machine j) N)
+  means h a e = subst (λ z. MeansAt (machine j) N z (find (machine j) N)) e (find-means (machine j) N h)
+
+  reaches-right :
+      (n : ℕ) (w : List ℕ) → 1 ≤ N → T (answer-reaches (length w) n (find (machine j) N .answer)) → find (machine j) N .schedule ≡ w →
+      Says j N (search-reaches n w)
+  unfolding answer-reaches
+  reaches-right n w h t s = which (find (machine j) N .answer) refl t
+    where
+      which : (a : Answer) → find (machine j) N .answer ≡ a → T (answer-reaches (length w) n a) → Says j N (search-reaches n w)
+      which (reachable d m) e t =
+          let p = both (eqb (length w) d) (eqb n m) t in
+          let c : d ≡ length w = sym (eqb→eq (length w) d (p .0)) in
+          let k : m ≡ n = sym (eqb→eq n m (p .1)) in
+          let r = means h (reachable d m) e in (
+            subst (λ z. Brings (machine j) (length w) z) s (subst (λ z. Brings (machine j) z (find (machine j) N .schedule)) c (brings (machine j) N d m (find (machine j) N) r)),
+            subst (λ z. Counts (AtMost (machine j) (length w)) z) k (subst (λ z. Counts (AtMost (machine j) z) m) c (r .counted)),
+            subst (λ z. z ≤ N) k (r .fits),
+          )
+      which (unreachable m) e t = absurd t
+      which (unknown m) e t = absurd t
+
+  never-right : (n : Option ℕ) → 1 ≤ N → T (answer-never n (find (machine j) N .answer)) → Says j N (search-never n)
+  unfolding answer-never
+  never-right n h t = which n (find (machine j) N .answer) refl t
+    where
+      which : (n : Option ℕ) (a : Answer) → find (machine j) N .answer ≡ a → T (answer-never n a) → Says j N (search-never n)
+      which n (reachable d m) e t = absurd t
+      which none (unreachable m) e t = never (machine j) N m (find (machine j) N) (means h (unreachable m) e)
+      which (some n) (unreachable m) e t =
+          let r = means h (unreachable m) e in
+          let k : m ≡ n = sym (eqb→eq n m t) in (
+            never (machine j) N m (find (machine j) N) r,
+            subst (λ z. Counts (Reached (machine j)) z) k (r .counted),
+            subst (λ z. z ≤ N) k (r .fits),
+          )
+      which n (unknown m) e t = absurd t
+
+  unknown-right : 1 ≤ N → T (answer-unknown (find (machine j) N .answer)) → Says j N search-unknown
+  unfolding answer-unknown
+  unknown-right h t = which (find (machine j) N .answer) refl t
+    where
+      which : (a : Answer) → find (machine j) N .answer ≡ a → T (answer-unknown a) → Says j N search-unknown
+      which (reachable d m) e t = absurd t
+      which (unreachable m) e t = absurd t
+      which (unknown m) e t =
+          let r = means h (unknown m) e in
+          unknown-exactly (machine j) N (find (machine j) N) (find-means (machine j) N h) .0 (subst (λ z. find (machine j) N .answer ≡ unknown z) (r .gives) e)
+
+  same-fenced-equal : (a b : Fenced) → T (same-fenced a b) → a ≡ b
+  unfolding same-fenced
+  same-fenced-equal fenced fenced t = refl
+  same-fenced-equal fenced (open-at a b c) t = absurd t
+  same-fenced-equal (open-at a b c) fenced t = absurd t
+  same-fenced-equal (open-at a b c) (open-at d e f) t =
+      let p = three (eqb a d) (eqb b e) (eqb c f) t in
+      let x = eqb→eq a d (p .0) in
+      let y = eqb→eq b e (p .1) in
+      let z = eqb→eq c f (p .2) in
+      cc
+
+  same-replayed-equal : (a b : Replayed) → T (same-replayed a b) → a ≡ b
+  unfolding same-replayed
+  same-replayed-equal reaches reaches t = refl
+  same-replayed-equal reaches falls-short t = absurd t
+  same-replayed-equal reaches (stuck k) t = absurd t
+  same-replayed-equal falls-short reaches t = absurd t
+  same-replayed-equal falls-short falls-short t = refl
+  same-replayed-equal falls-short (stuck k) t = absurd t
+  same-replayed-equal (stuck i) reaches t = absurd t
+  same-replayed-equal (stuck i) falls-short t = absurd t
+  same-replayed-equal (stuck i) (stuck k) t = ap stuck (eqb→eq i k t)
+
+  claim-right : (m : Claim) → T (claim-test j N m) → Says j N m
+  unfolding claim-test
+  claim-right (search-reaches n w) t =
+      let o = find (machine j) N in
+      let p = three (leb 1 N) (answer-reaches (length w) n (o .answer)) (same-list eqb (o .schedule) w) t in
+      reaches-right n w (leb→le 1 N (p .0)) (p .1) (same-list-equal eqb eqb→eq (o .schedule) w (p .2))
+  claim-right (search-never n) t =
+      let p = both (leb 1 N) (answer-never n (find (machine j) N .answer)) t in
+      never-right n (leb→le 1 N (p .0)) (p .1)
+  claim-right search-unknown t =
+      let p = both (leb 1 N) (answer-unknown (find (machine j) N .answer)) t in
+      unknown-right (leb→le 1 N (p .0)) (p .1)
+  claim-right (fences-say a) t = subst (FenceMeans j) (same-fenced-equal (fence-check j) a t) (fence-check-means j)
+  claim-right (replay-says w a) t =
+      subst (ReplayMeans (machine j) w) (same-replayed-equal (replay (machine j) w) a t) (replay-means (machine j) w)
+  claim-right (refuses number offset) t = absurd t
+
+refusal-right : (number offset : ℕ) (m : Claim) → T (refusal-test number offset m) → m ≡ refuses number offset
+unfolding refusal-test
+refusal-right number offset (search-reaches n w) t = absurd t
+refusal-right number offset (search-never n) t = absurd t
+refusal-right number offset search-unknown t = absurd t
+refusal-right number offset (fences-say a) t = absurd t
+refusal-right number offset (replay-says w a) t = absurd t
+refusal-right number offset (refuses k at) t =
+    let p = both (eqb k number) (eqb at offset) t in
+    let x = eqb→eq k number (p .0) in
+    let y = eqb→eq at offset (p .1) in
+    cc
+
+decoded-right : (N : ℕ) (m : Claim) (d : Decoded) → T (decoded-test N m d) → Meant N m d
+unfolding decoded-test
+decoded-right N m (accepted j) t = claim-right j N m t
+decoded-right N m (refused number offset) t = refusal-right number offset m t
+
+all-right : (l : List Case) → T (every case-test l) → All CaseHolds l
+unfolding every case-test
+all-right [] t = tt
+all-right (c ∷ l) t =
+    let p = both (case-test c) (every case-test l) t in
+    (decoded-right (c .slots) (c .claim) (decode (c .bytes)) (p .0), all-right l (p .1))
+
+computed : T (every case-test table)
+unfolding every case-test table p1 p2 p3 p4 p5 p6 p7 p8 p9 p10 p12 own-newest fence-waits exchange jump-over either-order exchange-between cut cut-unknown left-over decoded-test claim-test refusal-test answer-reaches answer-never answer-unknown same-fenced same-replayed place register variable buffer with-place with-register with-variable with-buffer same-list same-pending same-state start newest by-variable joined take-oldest behind take-oldest-to taken is-empty advanced carried buffered stored executed execute flush next clause-holds goal start-row offer-of offer offers-below offers known goal-row keep keep-new put-unless put put-all outcome by-goal by-rest by-room levels find decode after _>>=_ done times judged byte item field model-of in-range capacity-of register-ok zero-ok instruction-of instruction thread flag-of clause-of clause ended fields length-ok verdict onward onward-at successors is-store is-load is-fence move targets-below landings found leads or-else first-below open-test open-loads open-stores open-threads fence-answer fence-check at-end replay-from replay
+computed = tt
+
+-- every case of the table holds
+pub worked : All CaseHolds table
+worked = all-right table computed
