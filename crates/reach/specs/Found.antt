@@ -136,7 +136,7 @@ module _ (S : System) where
           none-before q (inl e) g h = absurd (subst T d (subst (λ z. T (S .goal (z .state))) e g))
           none-before q (inr m) g h = h q m g
 
-  goal-row-none :
+  pub goal-row-none :
       (rows : List (Row (S .State))) → goal-row S rows ≡ none → (q : Row (S .State)) → q ∈ rows → ¬ (T (S .goal (q .state)))
   unfolding goal-row
   goal-row-none [] e q h g = absurd h
@@ -208,7 +208,7 @@ module _ (S : System) where
         which (inl m) = absurd (no-nearer r m g)
         which (inr m) = m
 
-    ends-reachable :
+    pub ends-reachable :
         (r : Row (S .State)) → length (old ++ new) ≤ N → goal-row S new ≡ some r →
         IsReachable S N d (length (old ++ new)) (outcome S N (reachable d (length (old ++ new))) (old ++ new) (r .way))
     unfolding outcome
@@ -261,7 +261,7 @@ module _ (S : System) where
 
     -- a level without goals
     module _ (no-goal : (r : Row (S .State)) → r ∈ new → ¬ (T (S .goal (r .state)))) where
-      no-goal-row : (r : Row (S .State)) → r ∈ (old ++ new) → ¬ (T (S .goal (r .state)))
+      pub no-goal-row : (r : Row (S .State)) → r ∈ (old ++ new) → ¬ (T (S .goal (r .state)))
       no-goal-row r h g = no-goal r (goal-in-level r h g) g
 
       -- an empty one: every state that can be reached is among the rows
@@ -287,7 +287,7 @@ module _ (S : System) where
         reached-has : (x : S .State) → Reached S x → Has (old ++ new) x
         reached-has x h = all-met (length (h .way)) (h .way) x (h .leads) (omega arith)
 
-        ends-unreachable :
+        pub ends-unreachable :
             length (old ++ new) ≤ N →
             IsUnreachable S N (length (old ++ new)) (outcome S N (unreachable (length (old ++ new))) (old ++ new) [])
         unfolding outcome counts-near
@@ -324,6 +324,7 @@ module _ (S : System) where
     first-linked =
         record {
           zeroth = λ r e. v .linked .zeroth r (there 0 r e);
+          root = λ r e. v .linked .root r (there 0 r e);
           other = λ i r n e. other i r n e;
         }
       where
@@ -378,7 +379,7 @@ module _ (S : System) where
         let all = no-longer (near .states) (c .states) (near .distinct) (λ x m. c .exactly x .1 (f x (near .exactly x .0 m))) in
         omega (arith, near .number, c .number)
 
-    ends-unknown : IsUnknown S N N (outcome S N (unknown N) first [])
+    pub ends-unknown : IsUnknown S N N (outcome S N (unknown N) first [])
     unfolding outcome
     ends-unknown =
         record {

@@ -30,6 +30,7 @@ pub record Behind {X : Type 0} (rows : List (Row X)) (i : ℕ) (r : Row X) : Typ
 
 pub record RowsLinked {X : Type 0} (rows : List (Row X)) : Type 0 where
   pub zeroth : (r : Row X) → getElem? rows 0 ≡ some r → r .from ≡ no-link
+  pub root : (r : Row X) → getElem? rows 0 ≡ some r → r .way ≡ []
   pub other : (i : ℕ) (r : Row X) → 0 < i → getElem? rows i ≡ some r → Behind rows i r
 
 module _ (S : System) where
@@ -52,7 +53,7 @@ module _ (S : System) where
         ordered = (tt, tt);
         nearer = λ r h. absurd h;
         level = λ r h. level r h;
-        linked = record { zeroth = λ r e. zeroth r e; other = λ i r n e. other i r n e };
+        linked = record { zeroth = λ r e. ap (λ z. z .from) (only r e); root = λ r e. ap (λ z. z .way) (only r e); other = λ i r n e. other i r n e };
         some-row = omega arith;
       }
     where
@@ -73,8 +74,8 @@ module _ (S : System) where
       level r (inl e) = ap (λ z. length (z .way)) e
       level r (inr h) = absurd h
 
-      zeroth : (r : Row (S .State)) → getElem? (start-row S ∷ []) 0 ≡ some r → r .from ≡ no-link
-      zeroth r e = let d : start-row S ≡ r = cc in ap (λ z. z .from) (sym d)
+      only : (r : Row (S .State)) → getElem? (start-row S ∷ []) 0 ≡ some r → r ≡ start-row S
+      only r e = let d : start-row S ≡ r = cc in sym d
 
       other : (i : ℕ) (r : Row (S .State)) → 0 < i → getElem? (start-row S ∷ []) i ≡ some r → Behind (start-row S ∷ []) i r
       other i r n e = absurd (let h = at-below (start-row S ∷ []) i r e in omega arith)
@@ -188,15 +189,17 @@ module _ (S : System) where
       next-linked : RowsLinked ((old ++ new) ++ fresh)
       next-linked =
           record {
-            zeroth = λ r e. zeroth r (at-split (old ++ new) fresh 0 r e);
+            zeroth = λ r e. v .linked .zeroth r (as-before r (at-split (old ++ new) fresh 0 r e));
+            root = λ r e. v .linked .root r (as-before r (at-split (old ++ new) fresh 0 r e));
             other = λ i r n e. other i r n (at-split (old ++ new) fresh i r e);
           }
         where
-          zeroth :
+          as-before :
               (r : Row (S .State)) →
-              (getElem? (old ++ new) 0 ≡ some r) ⊎ ((k : ℕ) × (0 ≡ length (old ++ new) + k) × (getElem? fresh k ≡ some r)) → r .from ≡ no-link
-          zeroth r (inl e) = v .linked .zeroth r e
-          zeroth r (inr f) = absurd (omega (arith, v .some-row, f .1))
+              (getElem? (old ++ new) 0 ≡ some r) ⊎ ((k : ℕ) × (0 ≡ length (old ++ new) + k) × (getElem? fresh k ≡ some r)) →
+              getElem? (old ++ new) 0 ≡ some r
+          as-before r (inl e) = e
+          as-before r (inr f) = absurd (omega (arith, v .some-row, f .1))
 
           other :
               (i : ℕ) (r : Row (S .State)) → 0 < i →

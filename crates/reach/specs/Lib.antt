@@ -16,3 +16,6 @@ pub mod Found
 pub mod Unique
 pub mod Promise
 pub mod Replay
+pub mod Stored
+pub mod PutLaws
+pub mod WalkBack

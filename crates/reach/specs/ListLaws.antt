@@ -197,6 +197,16 @@ module _ {A : Type 0} where
   below-at (y ∷ l) zero h = (y, refl)
   below-at (y ∷ l) (suc i) h = below-at l i (omega arith)
 
+  pub at-getD : (l : List A) (i : ℕ) (x d : A) → getElem? l i ≡ some x → getD l i d ≡ x
+  at-getD [] i x d e = absurd (at-in [] i x e)
+  at-getD (y ∷ l) zero x d e = cc
+  at-getD (y ∷ l) (suc i) x d e = at-getD l i x d e
+
+  pub take-one-more : (l : List A) (i : ℕ) (x : A) → getElem? l i ≡ some x → take (suc i) l ≡ take i l ++ (x ∷ [])
+  take-one-more [] i x e = absurd (at-in [] i x e)
+  take-one-more (y ∷ l) zero x e = let d : y ≡ x = cc in ap {B = List A} (λ z. z ∷ []) d
+  take-one-more (y ∷ l) (suc i) x e = ap {B = List A} (λ z. y ∷ z) (take-one-more l i x e)
+
   pub at-split :
       (l m : List A) (i : ℕ) (x : A) → getElem? (l ++ m) i ≡ some x →
       (getElem? l i ≡ some x) ⊎ ((k : ℕ) × (i ≡ length l + k) × (getElem? m k ≡ some x))
@@ -247,6 +257,10 @@ map-at {A} {B} f [] i x e = absurd (never e)
     never e = let z : _≡_ {A = ℕ} 0 1 = cc in omega arith
 map-at {A} {B} f (a ∷ l) zero x e = let d : a ≡ x = cc in ap {B = Option B} (λ z. some (f z)) d
 map-at f (a ∷ l) (suc i) x e = map-at f l i x e
+
+pub map-append : {A B : Type 0} (f : A → B) (l m : List A) → map f (l ++ m) ≡ map f l ++ map f m
+map-append f [] m = refl
+map-append {B = B} f (a ∷ l) m = ap {B = List B} (λ z. f a ∷ z) (map-append f l m)
 
 pub in-map : {A B : Type 0} (f : A → B) (l : List A) (y : B) → y ∈ map f l → (x : A) × (x ∈ l) × (f x ≡ y)
 in-map f [] y h = absurd h

@@ -46,3 +46,7 @@ slot-size = most-threads + all-registers + most-variables + most-threads * buffe
 -- "t (0 to 3) executes one instruction of thread t; 4 + 8t + v flushes thread t's store to v": step numbers end before 36
 abbrev pub step-bound : ℕ
 step-bound = most-threads + most-threads * most-variables
+
+-- "N is the smallest of table bytes / 96 rounded down, links, schedule bytes, and 65,536"
+abbrev pub most-slots : ℕ
+most-slots = 65536

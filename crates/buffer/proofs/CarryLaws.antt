@@ -1,0 +1,103 @@
+-- A pair is carried along a buffer's bytes: at each turn it changes places with the pair that stands at the index.
+use mathlib.Core.Path.{_≡_, sym, ap, ap₂, _∙_}
+use mathlib.Core.Bool.{true}
+use mathlib.Core.List.{List}
+use mathlib.Core.Option.{some}
+use Prim.Native.Nat.{ℕ, suc, _+_, _-_, _≤_, _<_}
+use native.Mathlib.Numerals.{add-one}
+use native.Mathlib.Omega.{arith}
+use lib.ListN.{length, getD, set, length-set}
+use Rattle.rules.specs.Limits.{most-pending, pairs-size}
+use Rattle.rules.specs.State.{Pending}
+use Rattle.buffer.specs.Held.{pairs, held-buffer, held-taken}
+use Rattle.buffer.specs.HeldLaws.{held-number, pairs-held, holds}
+use Rattle.buffer.specs.PairLaws.{pairs-number, pairs-at, pairs-set}
+use Rattle.buffer.specs.Places.{no-pair, pair-at, set-pair, with-at, without-at, taken-at}
+use Rattle.buffer.specs.Posts.{RoomAt, StandsAt, Holds, Takes}
+use Rattle.buffer.specs.declared.Buf.{Buf}
+use Rattle.buffer.proofs.PlaceLaws.{carry-up, carry-down, with-at-number, without-at-number, put-in, take-out}
+
+-- the bytes s, whose pairs would be `all` if the pair went in at index i
+pub record Carried (s : List ℕ) (variable value i : ℕ) (all : List Pending) : Type 0 where
+  pub size : length s ≡ pairs-size
+  pub is : with-at i (record { variable = variable; value = value }) (pairs s) ≡ all
+
+module _ (s : List ℕ) (v k i : ℕ) (size : length s ≡ pairs-size) where
+  written-size : length (set-pair s i v k) ≡ pairs-size
+  written-size = simp length-set size
+
+  -- the pair that stood at index i goes in at j, and the carried pair is at i
+  changed :
+      (j : ℕ) →
+      with-at j (pair-at s i) (pairs (set-pair s i v k))
+      ≡ with-at j (getD (pairs s) i no-pair) (set (pairs s) i (record { variable = v; value = k }))
+  changed j = ap₂ (with-at j) (sym (pairs-at most-pending s size i)) (pairs-set most-pending s size i v k)
+
+  below : i < most-pending → i < length (pairs s)
+  below h = omega (arith, pairs-number most-pending s size)
+
+pub carried-up :
+    (s : List ℕ) (v k i : ℕ) (all : List Pending) → Carried s v k i all → i < most-pending →
+    Carried (set-pair s i v k) (pair-at s i .variable) (pair-at s i .value) (i + 1) all
+carried-up s v k i all c h =
+    record {
+      size = written-size s v k i (c .size);
+      is =
+          changed s v k i (c .size) (i + 1)
+          ∙ ap (λ j. with-at j (getD (pairs s) i no-pair) (set (pairs s) i (record { variable = v; value = k }))) (add-one i)
+          ∙ carry-up (pairs s) i (record { variable = v; value = k }) no-pair (below s v k i (c .size) h)
+          ∙ c .is;
+    }
+
+pub carried-down :
+    (s : List ℕ) (v k i : ℕ) (all : List Pending) → Carried s v k i all → 0 < i → i ≤ most-pending →
+    Carried (set-pair s (i - 1) v k) (pair-at s (i - 1) .variable) (pair-at s (i - 1) .value) (i - 1) all
+carried-down s v k i all c positive few =
+    let before : suc (i - 1) ≡ i = omega arith in
+    record {
+      size = written-size s v k (i - 1) (c .size);
+      is =
+          changed s v k (i - 1) (c .size) (i - 1)
+          ∙ carry-down (pairs s) (i - 1) (record { variable = v; value = k }) no-pair (below s v k (i - 1) (c .size) (omega arith))
+          ∙ ap (λ j. with-at j (record { variable = v; value = k }) (pairs s)) before
+          ∙ c .is;
+    }
+
+-- where the carrying up ends, one place behind the last pending store, the store is in
+pub put-in-holds :
+    (b : Buf) (at v k : ℕ) → RoomAt b at → (s : List ℕ) (variable value i : ℕ) →
+    Carried s variable value i (with-at at (record { variable = v; value = k }) (pairs (b .slots))) → i ≡ b .len + 1 →
+    Holds (record { len = b .len + 1; slots = s }) (with-at at (record { variable = v; value = k }) (held-buffer b))
+put-in-holds b at v k h s variable value i c e =
+    let l = held-buffer b in
+    let q : Pending = record { variable = v; value = k } in
+    let carried : Pending = record { variable = variable; value = value } in
+    let ok = h .room .ok in
+    let number = held-number b ok in
+    let more = with-at-number l at q in
+    let behind : suc (length l) ≡ i = omega arith in
+    let all = ap (λ j. with-at j carried (pairs s)) behind ∙ c .is ∙ ap (with-at at q) (pairs-held b ok) in
+    let done = put-in l (pairs s) at q carried (omega arith) (omega (arith, h .room .room)) (pairs-number most-pending s (c .size)) all in
+    holds (record { len = b .len + 1; slots = s }) (with-at at q l) (omega arith) (omega (arith, h .room .room)) (c .size) done
+
+-- where the carrying down ends, at the index, the store that stood there is what is carried
+pub take-out-takes :
+    (b : Buf) (at : ℕ) → StandsAt b at → (s : List ℕ) (variable value i : ℕ) →
+    Carried s variable value i (with-at (b .len) no-pair (pairs (b .slots))) → i ≡ at →
+    Takes (record { found = true; value = value; rest = record { len = b .len - 1; slots = s } }) (some (taken-at at (held-buffer b)))
+unfolding held-taken
+take-out-takes b at h s variable value i c e =
+    let l = held-buffer b in
+    let carried : Pending = record { variable = variable; value = value } in
+    let ok = h .ok in
+    let number = held-number b ok in
+    let all =
+    ap (λ j. with-at j carried (pairs s)) (sym e)
+    ∙ c .is
+    ∙ ap₂ (λ n r. with-at n no-pair r) (sym number) (pairs-held b ok) in
+    let within : at < length l = omega arith in
+    let few : length l ≤ most-pending = omega (arith, ok .few) in
+    let done = take-out l (pairs s) at carried within few (pairs-number most-pending s (c .size)) all in
+    let less = without-at-number l at within in
+    let rest = holds (record { len = b .len - 1; slots = s }) (without-at at l) (omega arith) (omega arith) (c .size) (done .1) in
+    record { ok = rest .ok; held = λ j. some (record { value = done .0 j .value; rest = rest .held j }) }

@@ -1,0 +1,3 @@
+pub mod CarryLaws
+pub mod PlaceLaws
+pub mod ReadLaws

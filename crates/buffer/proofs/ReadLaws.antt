@@ -1,0 +1,74 @@
+-- A buffer's pending stores are read one by one, oldest first.
+use mathlib.Core.Path.{_≡_, refl, sym, ap, _∙_}
+use mathlib.Core.Bool.{Bool, true, false, cond}
+use mathlib.Core.List.{[]}
+use Prim.Native.Nat.{ℕ, suc, _+_, _≤_, _<_}
+use native.Mathlib.Nat.{zero-add}
+use native.Mathlib.Omega.{arith}
+use lib.ListN.{drop, drop-of-length-le}
+use Rattle.rules.specs.State.{Pending}
+use Rattle.rules.specs.Step.{newest}
+use Rattle.buffer.specs.Held.{held-buffer, BufferOk}
+use Rattle.buffer.specs.HeldLaws.{held-number, held-from}
+use Rattle.buffer.specs.Places.{pair-at, first, is-to}
+use Rattle.buffer.specs.declared.Buf.{Buf}
+
+-- a search that has come to index i: what is left decides
+pub record Searched (f : Pending → Bool) (b : Buf) (i : ℕ) : Type 0 where
+  pub within : i ≤ b .len
+  pub is : i + first f (drop i (held-buffer b)) ≡ first f (held-buffer b)
+
+-- what is seen before index i, and then what is left
+pub record Seen (v memory : ℕ) (b : Buf) (seen i : ℕ) : Type 0 where
+  pub within : i ≤ b .len
+  pub is : newest v seen (drop i (held-buffer b)) ≡ newest v memory (held-buffer b)
+
+module _ (b : Buf) (ok : BufferOk b) where
+  none-left : (i : ℕ) → b .len ≤ i → drop i (held-buffer b) ≡ []
+  none-left i h = drop-of-length-le (held-buffer b) {i = i} (omega (arith, held-number b ok))
+
+  module _ (f : Pending → Bool) where
+    pub search-starts : Searched f b 0
+    search-starts = record { within = omega arith; is = zero-add (first f (held-buffer b)) }
+
+    pub search-finds : (i : ℕ) → i < b .len → f (pair-at (b .slots) i) ≡ true → Searched f b i → i ≡ first f (held-buffer b)
+    unfolding first
+    search-finds i h t s =
+        let here : first f (drop i (held-buffer b)) ≡ 0 =
+        ap (first f) (held-from b ok i h) ∙ ap (λ z. cond z 0 (suc (first f (drop (i + 1) (held-buffer b))))) t in
+        omega (arith, s .is)
+
+    pub search-goes-on : (i : ℕ) → i < b .len → f (pair-at (b .slots) i) ≡ false → Searched f b i → Searched f b (i + 1)
+    unfolding first
+    search-goes-on i h t s =
+        let later : first f (drop i (held-buffer b)) ≡ suc (first f (drop (i + 1) (held-buffer b))) =
+        ap (first f) (held-from b ok i h) ∙ ap (λ z. cond z 0 (suc (first f (drop (i + 1) (held-buffer b))))) t in
+        record { within = omega arith; is = omega (arith, s .is) }
+
+    pub search-ends : (i : ℕ) → b .len ≤ i → Searched f b i → i ≡ first f (held-buffer b)
+    unfolding first
+    search-ends i h s =
+        let over : first f (drop i (held-buffer b)) ≡ 0 = ap (first f) (none-left i h) in
+        omega (arith, s .is)
+
+  module _ (v memory : ℕ) where
+    pub seen-starts : Seen v memory b memory 0
+    seen-starts = record { within = omega arith; is = refl }
+
+    -- a store to v is seen, any other is not
+    pub seen-goes-on :
+        (seen i next : ℕ) → i < b .len → next ≡ cond (is-to v (pair-at (b .slots) i)) (pair-at (b .slots) i .value) seen →
+        Seen v memory b seen i → Seen v memory b next (i + 1)
+    unfolding newest
+    seen-goes-on seen i next h e s =
+        record {
+          within = omega arith;
+          is =
+              ap (λ k. newest v k (drop (i + 1) (held-buffer b))) e
+              ∙ sym (ap (newest v seen) (held-from b ok i h))
+              ∙ s .is;
+        }
+
+    pub seen-ends : (seen i : ℕ) → b .len ≤ i → Seen v memory b seen i → seen ≡ newest v memory (held-buffer b)
+    unfolding newest
+    seen-ends seen i h s = sym (ap (newest v seen) (none-left i h)) ∙ s .is

@@ -1,0 +1,81 @@
+-- `buffer::newest` meets its contract. The invariant: the newest of what is left, else what is seen so far. Assumes nothing.
+use mathlib.Core.Path.{sym, ap, _∙_}
+use mathlib.Core.Bool.{cond}
+use mathlib.Core.Logic.{⊎-elim}
+use Prim.Native.Nat.{ℕ, _+_, _*_, _-_}
+use native.Mathlib.Omega.{arith}
+use lib.ListN.{getD}
+use borrow.Author.Tests.{eq-eqb, ne-eqb}
+use Rattle.buffer.proofs.ReadLaws.{Seen, seen-starts, seen-goes-on, seen-ends}
+use Rattle.buffer.proofs.newest.Statement.{statement}
+use Rattle.buffer.proofs.newest.Tie as tie
+
+abbrev Inv-loop : tie.InvT-loop
+Inv-loop v memory b n seen₀ i₀ seen i = Seen v memory b seen i
+
+abbrev μ-loop : tie.MeasureT-loop
+μ-loop v memory b n seen₀ i₀ seen i = b .len - i
+
+cast-n : tie.Need-cast-n Inv-loop μ-loop
+cast-n c = omega arith
+
+loop-holds : tie.Need-loop-holds Inv-loop μ-loop
+loop-holds c = seen-starts _ (c .pre) _ _
+
+mul-if1 : tie.Need-mul-if1 Inv-loop μ-loop
+mul-if1 c = omega arith
+
+element-copy-out-if1 : tie.Need-element-copy-out-if1 Inv-loop μ-loop
+element-copy-out-if1 c = omega arith
+
+mul-seen : tie.Need-mul-seen Inv-loop μ-loop
+mul-seen c = omega arith
+
+add-seen : tie.Need-add-seen Inv-loop μ-loop
+add-seen c = omega arith
+
+element-copy-out-seen : tie.Need-element-copy-out-seen Inv-loop μ-loop
+element-copy-out-seen c = omega arith
+
+add-i : tie.Need-add-i Inv-loop μ-loop
+add-i c = omega arith
+
+loop-less : tie.Need-loop-less Inv-loop μ-loop
+loop-less c = omega arith
+
+loop-again : tie.Need-loop-again Inv-loop μ-loop
+loop-again c =
+    let start = c .before .before .before .before in
+    let l = c .before .before .before .loop in
+    let next : ℕ = c .if1 .seen in
+    let value : ℕ = getD (start .args .t1 .slots) (2 * l .i + 1) 0 in
+    seen-goes-on (start .args .t1) (start .pre) _ _ (l .seen) (l .i) next (c .before .before .loop-test .taken)
+    (⊎-elim
+    (λ w. w .2 ∙ sym (ap (λ t. cond t value (l .seen)) (eq-eqb _ _ (w .0 .taken))))
+    (λ w. w .1 ∙ sym (ap (λ t. cond t value (l .seen)) (ne-eqb _ _ (w .0 .left))))
+    (c .if1 .came))
+    (l .inv)
+
+returns : tie.Need-returns Inv-loop μ-loop
+returns c =
+    let start = c .before .before in
+    let l = c .before .loop in
+    seen-ends (start .args .t1) (start .pre) _ _ (l .seen) (l .i) (c .loop-test .left) (l .inv)
+
+pub newest-spec : {M : Type 1} → statement M
+newest-spec =
+    tie.close
+    (tie.spec
+    Inv-loop
+    μ-loop
+    cast-n
+    loop-holds
+    mul-if1
+    element-copy-out-if1
+    mul-seen
+    add-seen
+    element-copy-out-seen
+    add-i
+    loop-less
+    loop-again
+    returns)

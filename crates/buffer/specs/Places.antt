@@ -1,0 +1,47 @@
+-- Pending stores by index: where one is found, and where one goes in or out.
+use mathlib.Core.Bool.{Bool, not, cond}
+use mathlib.Core.List.{List, [], _∷_, _++_}
+use Prim.Native.Nat.{ℕ, suc, _+_, _*_, _-_}
+use lib.Dec.{eqb, leb}
+use lib.ListN.{length, getD, set, take, drop, replicate}
+use Rattle.rules.specs.Limits.{most-pending}
+use Rattle.rules.specs.State.{Pending}
+use Rattle.rules.specs.Step as rules
+
+-- an unused pair
+abbrev pub no-pair : Pending
+no-pair = record { variable = 0; value = 0 }
+
+-- the pair at an index of the bytes, and the bytes with a pair written there
+abbrev pub pair-at : List ℕ → ℕ → Pending
+pair-at s i = record { variable = getD s (2 * i) 0; value = getD s (2 * i + 1) 0 }
+
+abbrev pub set-pair : List ℕ → (i v k : ℕ) → List ℕ
+set-pair s i v k = set (set s (2 * i) v) (2 * i + 1) k
+
+-- pending stores and unused pairs, together as many as there is room for
+abbrev pub padded : List Pending → List Pending
+padded l = l ++ replicate (most-pending - length l) no-pair
+
+-- the index of the first that passes the test, or the length
+unfoldable pub first : {A : Type 0} → (A → Bool) → List A → ℕ
+first f [] = 0
+first f (x ∷ l) = cond (f x) 0 (suc (first f l))
+
+-- whether a store is to v, and whether it is to a variable after v
+abbrev pub is-to : ℕ → Pending → Bool
+is-to v p = eqb (p .variable) v
+
+abbrev pub is-after : ℕ → Pending → Bool
+is-after v p = not (leb (p .variable) v)
+
+-- the list with x put in at index i, and the list without what stands there
+abbrev pub with-at : {A : Type 0} → ℕ → A → List A → List A
+with-at i x l = take i l ++ x ∷ drop i l
+
+abbrev pub without-at : {A : Type 0} → ℕ → List A → List A
+without-at i l = take i l ++ drop (suc i) l
+
+-- what a flush takes at an index
+abbrev pub taken-at : ℕ → List Pending → rules.Taken
+taken-at i b = record { value = getD b i no-pair .value; rest = without-at i b }

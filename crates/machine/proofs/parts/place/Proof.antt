@@ -1,0 +1,17 @@
+-- `machine::parts::place` meets its contract: a place is an element of the value. Assumes nothing.
+use mathlib.Core.Path.{refl}
+use borrow.Author.Needs.{needs}
+use Rattle.rules.specs.State.{place}
+use Rattle.machine.specs.Held.{held}
+use Rattle.machine.proofs.parts.place.Statement.{statement}
+use Rattle.machine.proofs.parts.place.Tie as tie
+
+element-copy-out-result : tie.Need-element-copy-out-result
+element-copy-out-result c = search needs
+
+returns : tie.Need-returns
+unfolding place held
+returns c = refl
+
+pub place-spec : {M : Type 1} → statement M
+place-spec = tie.close (tie.spec element-copy-out-result returns)

@@ -1,0 +1,17 @@
+-- `machine::parts::variable` meets its contract: a variable is an element of the value. Assumes nothing.
+use mathlib.Core.Path.{refl}
+use borrow.Author.Needs.{needs}
+use Rattle.rules.specs.State.{variable}
+use Rattle.machine.specs.Held.{held}
+use Rattle.machine.proofs.parts.variable.Statement.{statement}
+use Rattle.machine.proofs.parts.variable.Tie as tie
+
+element-copy-out-result : tie.Need-element-copy-out-result
+element-copy-out-result c = search needs
+
+returns : tie.Need-returns
+unfolding variable held
+returns c = refl
+
+pub variable-spec : {M : Type 1} → statement M
+variable-spec = tie.close (tie.spec element-copy-out-result returns)

@@ -1,0 +1,5 @@
+pub mod Held
+pub mod Parts
+pub mod Moves
+pub mod InRange
+pub mod HeldLaws

@@ -1,0 +1,4 @@
+pub mod RunLaws
+pub mod BufferLaws
+pub mod StateLaws
+pub mod Sizes

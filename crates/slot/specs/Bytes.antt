@@ -1,0 +1,42 @@
+-- A state's bytes, in the order of 01's "Slot layout".
+use mathlib.Core.Path.{_≡_}
+use mathlib.Core.List.{List, [], _∷_, _++_}
+use Prim.Native.Nat.{ℕ, _+_}
+use lib.ListN.{length}
+use Rattle.reach.specs.Lists.{All}
+use Rattle.rules.specs.Limits.{most-threads, most-variables, all-registers, pairs-size}
+use Rattle.buffer.specs.declared.Buf.{Buf}
+use Rattle.machine.specs.declared.State.{State}
+
+-- "17 bytes a thread: count, and eight pairs"
+unfoldable pub buffer-bytes : Buf → List ℕ
+buffer-bytes b = b .len ∷ b .slots
+
+unfoldable pub buffers-bytes : List Buf → List ℕ
+buffers-bytes [] = []
+buffers-bytes (b ∷ l) = buffer-bytes b ++ buffers-bytes l
+
+-- "bytes 0-3 places; 4-19 registers, thread by thread; 20-27 memory; then 17 bytes a thread"
+unfoldable pub state-bytes : State → List ℕ
+state-bytes s = s .places ++ s .regs ++ s .mem ++ buffers-bytes (s .bufs)
+
+-- where the parts after the first begin
+abbrev pub registers-at : ℕ
+registers-at = most-threads
+
+abbrev pub memory-at : ℕ
+memory-at = registers-at + all-registers
+
+abbrev pub buffers-at : ℕ
+buffers-at = memory-at + most-variables
+
+abbrev pub FullBuffer : Buf → Type 0
+FullBuffer b = length (b .slots) ≡ pairs-size
+
+-- what the types of a state's fields say: how many there are of each
+pub record Sized (s : State) : Type 0 where
+  pub places-number : length (s .places) ≡ most-threads
+  pub registers-number : length (s .regs) ≡ all-registers
+  pub memory-number : length (s .mem) ≡ most-variables
+  pub buffers-number : length (s .bufs) ≡ most-threads
+  pub full : All FullBuffer (s .bufs)
