@@ -1,0 +1,82 @@
+-- `engine::all_empty` meets its contract. The invariant: the threads from t on decide. Assumes nothing.
+use mathlib.Core.Path.{_≡_, refl, sym, _∙_}
+use Prim.Native.Nat.{_-_, _≤_}
+use native.Mathlib.Omega.{arith}
+use lib.ListN.{drop}
+use borrow.Author.Tests.{not-true, not-false}
+use Rattle.rules.specs.Limits.{most-threads}
+use Rattle.rules.specs.Step.{is-empty}
+use Rattle.rules.specs.Goal.{every}
+use Rattle.machine.specs.Held.{held}
+use Rattle.machine.proofs.MoveLaws.{empty-as}
+use Rattle.engine.proofs.EveryLaws.{test-first, tests-end}
+use Rattle.engine.proofs.GoalLaws.{buffers-held, buffer-at}
+use Rattle.engine.proofs.all_empty.Statement.{statement}
+use Rattle.engine.proofs.all_empty.Tie as tie
+
+abbrev Inv-loop : tie.InvT-loop
+Inv-loop s t₀ t =
+    (t ≤ most-threads) × (every is-empty (held s .buffers) ≡ every is-empty (drop t (held s .buffers)))
+
+abbrev μ-loop : tie.MeasureT-loop
+μ-loop s t₀ t = most-threads - t
+
+loop-holds : tie.Need-loop-holds Inv-loop μ-loop
+loop-holds c = (omega arith, refl)
+
+buffer-requires : tie.Need-buffer-requires Inv-loop μ-loop
+buffer-requires c κs = record { ok = c .before .before .pre; thread = omega arith }
+
+is-empty-requires : tie.Need-is-empty-requires Inv-loop μ-loop
+is-empty-requires c κs = c .buffer .ensures .ok
+
+returns : tie.Need-returns Inv-loop μ-loop
+returns c =
+    let start = c .before .before .before .before .before in
+    let below = c .before .before .before .loop-test .taken in
+    let l = c .before .before .before .before .loop in
+    let own = c .before .before .buffer .ensures in
+    sym
+    (l .inv .1
+    ∙ test-first is-empty (held (start .args .s) .buffers) (l .t) _ (buffer-at (start .args .s) (start .pre) _ below)
+    (empty-as own (c .before .is-empty .ensures) (not-true _ (c .if1 .taken))))
+
+add-t : tie.Need-add-t Inv-loop μ-loop
+add-t c = omega arith
+
+loop-less : tie.Need-loop-less Inv-loop μ-loop
+loop-less c = omega arith
+
+loop-again : tie.Need-loop-again Inv-loop μ-loop
+loop-again c =
+    let start = c .before .before .before .before .before in
+    let below = c .before .before .before .loop-test .taken in
+    let l = c .before .before .before .before .loop in
+    let own = c .before .before .buffer .ensures in (
+      omega (arith, below),
+      l .inv .1
+          ∙ test-first is-empty (held (start .args .s) .buffers) (l .t) _ (buffer-at (start .args .s) (start .pre) _ below)
+          (empty-as own (c .before .is-empty .ensures) (not-false _ (c .if1 .left))),
+    )
+
+returns-2 : tie.Need-returns-2 Inv-loop μ-loop
+returns-2 c =
+    let start = c .before .before in
+    let l = c .before .loop in
+    sym (l .inv .1 ∙ tests-end is-empty (held (start .args .s) .buffers) (l .t)
+    (omega (arith, buffers-held (start .args .s) (start .pre), c .loop-test .left)))
+
+pub all-empty-spec : {M : Type 1} → statement M
+all-empty-spec =
+    tie.close
+    (tie.spec
+    Inv-loop
+    μ-loop
+    loop-holds
+    buffer-requires
+    is-empty-requires
+    returns
+    add-t
+    loop-less
+    loop-again
+    returns-2)

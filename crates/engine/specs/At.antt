@@ -1,0 +1,30 @@
+-- What the machine of a job asks: the job was accepted, and the state is one of its machine's.
+use mathlib.Core.Path.{_≡_}
+use mathlib.Core.List.{List}
+use Prim.Native.Nat.{ℕ, _<_}
+use lib.ListN.{length, getD}
+use Rattle.rules.specs.Limits.{most-threads, most-variables, registers-each}
+use Rattle.rules.specs.Job.{Job}
+use Rattle.rules.specs.Sound.{WellFormed}
+use Rattle.rules.specs.declared.Clause.{Clause}
+use Rattle.rules.specs.declared.Clause.the-variants.{Place, Register, Memory as MemoryHolds}
+use Rattle.job.specs.Laid.{IsAccepted}
+use Rattle.job.specs.declared.Layout.{Layout}
+use Rattle.machine.specs.Held.{held, StateOk}
+use Rattle.machine.specs.declared.State.{State}
+
+pub record At (bytes : List ℕ) (l : Layout) (s : State) : Type 0 where
+  pub accepted : IsAccepted bytes l
+  pub ok : StateOk s
+  pub well : WellFormed (accepted .job) (held s)
+
+-- the memory with which a job starts
+pub record Memory (j : Job) (mem : List ℕ) : Type 0 where
+  pub size : length mem ≡ most-variables
+  pub cells : (v : ℕ) → v < most-variables → getD mem v 0 ≡ getD (j .initial) v 0
+
+-- a clause speaks of parts that a state has
+abbrev pub ClauseOk : Clause → Type 0
+ClauseOk (Place t p) = t < most-threads
+ClauseOk (Register t r k) = (t < most-threads) × (r < registers-each)
+ClauseOk (MemoryHolds v k) = v < most-variables

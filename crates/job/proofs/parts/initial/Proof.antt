@@ -1,0 +1,25 @@
+-- `job::parts::initial` meets its contract: V bytes behind the head are the initial values.
+use native.Mathlib.Omega.{arith}
+use borrow.Author.Needs.{needs}
+use lib.ListN.{List·getD-eq-default}
+use Rattle.job.proofs.parts.initial.Statement.{statement}
+use Rattle.job.proofs.parts.initial.Tie as tie
+
+returns : tie.Need-returns
+returns c j h = rw (List·getD-eq-default (j .initial) _ {n = c .before .before .args .v} (omega (arith, h .vars)))
+
+wide-requires : tie.Need-wide-requires
+wide-requires c κs = search needs
+
+add-result : tie.Need-add-result
+add-result c = search needs
+
+shared-slice-read-result : tie.Need-shared-slice-read-result
+shared-slice-read-result c = search needs
+
+returns-2 : tie.Need-returns-2
+returns-2 c j h = rw (c .before .wide .ensures) (h .initial _ (omega (arith, h .vars)))
+
+pub initial-spec : {M : Type 1} → statement M
+initial-spec =
+    tie.close (tie.spec returns wide-requires add-result shared-slice-read-result returns-2)

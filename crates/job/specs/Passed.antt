@@ -1,0 +1,53 @@
+-- What the decoder's small answers stand for in the definitions of the file.
+use mathlib.Core.Bool.{cond, _&&_}
+use mathlib.Core.List.{List}
+use mathlib.Core.Option.{Option, none, some}
+use Prim.Native.Nat.{ℕ, _+_}
+use lib.Dec.{ltb}
+use lib.ListN.{getD}
+use Rattle.rules.specs.File.{Read, got, fault, instruction-of, clause-of}
+use Rattle.rules.specs.declared.Instr.{Instr}
+use Rattle.rules.specs.declared.Clause.{Clause}
+use Rattle.job.specs.declared.InstrRead.{InstrRead}
+use Rattle.job.specs.declared.InstrRead.the-variants as InstrReads
+use Rattle.job.specs.declared.ClauseRead.{ClauseRead}
+use Rattle.job.specs.declared.ClauseRead.the-variants as ClauseReads
+use Rattle.job.specs.declared.Next.{Next}
+use Rattle.job.specs.declared.Next.the-variants.{At, Fault}
+
+abbrev pub instr-of : InstrRead → Option Instr
+instr-of (InstrReads.Good i) = some i
+instr-of InstrReads.Bad = none
+
+abbrev pub goal-clause-of : ClauseRead → Option Clause
+goal-clause-of (ClauseReads.Good c) = some c
+goal-clause-of ClauseReads.Bad = none
+
+-- what the four bytes from an offset are
+abbrev pub instruction-in-bytes : List ℕ → (vars n at : ℕ) → Option Instr
+instruction-in-bytes bytes vars n at =
+    instruction-of vars n (getD bytes at 0) (getD bytes (at + 1) 0) (getD bytes (at + 2) 0) (getD bytes (at + 3) 0)
+
+abbrev pub clause-in-bytes : List ℕ → (vars : ℕ) → List (List Instr) → (at : ℕ) → Option Clause
+clause-in-bytes bytes vars threads at =
+    clause-of vars threads (getD bytes at 0) (getD bytes (at + 1) 0) (getD bytes (at + 2) 0) (getD bytes (at + 3) 0)
+
+-- where a reader has come to, its value forgotten
+abbrev pub passed : {A : Type 0} → Read A → Next
+passed (got a next) = At next
+passed (fault number offset) = Fault number offset
+
+-- the first fault wins
+abbrev pub then : Next → Next → Next
+then (At next) b = b
+then (Fault number offset) b = Fault number offset
+
+-- on from where the first came to
+abbrev pub chain : Next → (ℕ → Next) → Next
+chain (At next) f = f next
+chain (Fault number offset) f = Fault number offset
+
+-- where thread t's instructions begin, just behind its n; 0 for a thread that is not there
+abbrev pub begin-of : (size count t : ℕ) → Next → ℕ
+begin-of size count t (At next) = cond (ltb t count && ltb next size) (next + 1) 0
+begin-of size count t (Fault number offset) = 0

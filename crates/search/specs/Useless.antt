@@ -1,0 +1,73 @@
+-- Useless versions of a search break the promise: what it must answer for P1 with 640 slots, and what it must write.
+use mathlib.Core.Path.{_≡_, refl, sym, _∙_, ap, subst}
+use mathlib.Core.Bool.{true, false}
+use mathlib.Core.List.{List, [], _∷_, _++_}
+use mathlib.Core.Option.{some}
+use Prim.Native.Nat.{ℕ, suc, _≤_}
+use native.Mathlib.Omega.{arith}
+use lib.ListN.{length, getD, drop}
+use Rattle.reach.specs.Meaning.{reachable, no-link}
+use Rattle.reach.specs.Unique.{one-outcome}
+use Rattle.reach.specs.Found.{find-means}
+use Rattle.reach.specs.Rows.{start-row, offer-of, offer, offers-below, offers, known, goal-row, keep, keep-new, put-unless, put, put-all}
+use Rattle.reach.specs.Rows.{outcome, by-goal, by-rest, by-room, levels, find}
+use Rattle.rules.specs.State.{State, place, register, variable, buffer, with-place, with-register, with-variable, with-buffer}
+use Rattle.rules.specs.State.{same-list, same-pending, same-state}
+use Rattle.rules.specs.Job.{Job, start}
+use Rattle.rules.specs.Step.{newest, by-variable, joined, take-oldest, behind, take-oldest-to, taken, is-empty, advanced, carried}
+use Rattle.rules.specs.Step.{buffered, stored, executed, execute, flush, next}
+use Rattle.rules.specs.Goal.{every, clause-holds, goal}
+use Rattle.rules.specs.File.{after, _>>=_, done, times, judged, byte, item, field, model-of, in-range, capacity-of, register-ok, zero-ok}
+use Rattle.rules.specs.File.{instruction-of, instruction, thread, flag-of, clause-of, clause, ended, fields, length-ok}
+use Rattle.rules.specs.File.{Decoded, accepted, refused, verdict, decode}
+use Rattle.rules.specs.Machine.{machine}
+use Rattle.rules.specs.Jobs.{p1}
+use Rattle.rules.specs.declared.Model.the-variants.{Tso}
+use Rattle.rules.specs.declared.Source.the-variants.{Constant}
+use Rattle.rules.specs.declared.Instr.the-variants.{Load, Store}
+use Rattle.rules.specs.declared.Clause.the-variants.{Place, Register}
+use Rattle.search.specs.Meaning.{Lent, slots-lent, MeansWith, MeansOf, SearchMeans, IsAnswered, answer-words}
+
+-- P1, decoded
+store-buffering : Job
+store-buffering =
+    record {
+      model = Tso;
+      capacity = 1;
+      initial = 0 ∷ 0 ∷ [];
+      threads = (Store (Constant 1) 0 ∷ Load 0 1 ∷ []) ∷ (Store (Constant 1) 1 ∷ Load 0 0 ∷ []) ∷ [];
+      all-empty = false;
+      clauses = Place 0 2 ∷ Place 1 2 ∷ Register 0 0 0 ∷ Register 1 0 0 ∷ [];
+    }
+
+p1-is : decode p1 ≡ accepted store-buffering
+unfolding p1 store-buffering decode after _>>=_ done times judged byte item field model-of in-range capacity-of register-ok zero-ok instruction-of instruction thread flag-of clause-of clause ended fields length-ok verdict
+p1-is = refl
+
+p1-found : find (machine store-buffering) 640 .answer ≡ reachable 4 22
+unfolding store-buffering place register variable buffer with-place with-register with-variable with-buffer same-list same-pending same-state start newest by-variable joined take-oldest behind take-oldest-to taken is-empty advanced carried buffered stored executed execute flush next every clause-holds goal start-row offer-of offer offers-below offers known goal-row keep keep-new put-unless put put-all outcome by-goal by-rest by-room levels find
+p1-found = refl
+
+p1-first-link : (rest : List ℕ) → getD (find (machine store-buffering) 640 .links ++ rest) 0 0 ≡ no-link
+unfolding store-buffering place register variable buffer with-place with-register with-variable with-buffer same-list same-pending same-state start newest by-variable joined take-oldest behind take-oldest-to taken is-empty advanced carried buffered stored executed execute flush next every clause-holds goal start-row offer-of offer offers-below offers known goal-row keep keep-new put-unless put put-all outcome by-goal by-rest by-room levels find
+p1-first-link rest = refl
+
+-- with 640 slots the promise for P1 allows one answer only: refusals, unknown, unreachable and other counts break it
+module _ (m m′ : Lent) (ws : List ℕ) (slots : slots-lent m ≡ 640) (h : SearchMeans p1 m ws m′) where
+  answered : IsAnswered store-buffering 640 m ws m′
+  answered = subst (λ n. MeansWith store-buffering n m ws m′) slots (subst (λ d. MeansOf d m ws m′) p1-is h)
+
+  is-found : answered .outcome ≡ find (machine store-buffering) 640
+  is-found =
+      one-outcome (machine store-buffering) 640 (answered .outcome) (find (machine store-buffering) 640) (answered .means)
+      (find-means (machine store-buffering) 640 (omega arith))
+
+  pub p1-answer : ws ≡ 1 ∷ 4 ∷ 22 ∷ 0 ∷ []
+  p1-answer = answered .answer ∙ ap (λ o. answer-words (o .answer)) is-found ∙ ap answer-words p1-found
+
+  -- the first link is written, so a search that writes nothing breaks it wherever that link was not there before
+  pub p1-writes : getD (m′ .links) 0 0 ≡ no-link
+  p1-writes =
+      let o = answered .outcome in
+      let kept = drop (length (o .links)) (m .links) in
+      ap (λ z. getD (z .links) 0 0) (answered .buffers) ∙ ap (λ z. getD (z .links ++ kept) 0 0) is-found ∙ p1-first-link kept
