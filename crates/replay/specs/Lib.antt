@@ -1,0 +1,3 @@
+-- What a replay promises: read `Meaning` first.
+pub mod Meaning
+pub mod Steps

@@ -1,0 +1,18 @@
+//! A second reachability checker for store buffers, written apart from the proved one.
+//!
+//! It favours plainness over memory: growing vectors, hash maps and explicit level sets.
+
+pub mod bench;
+pub mod fences;
+pub mod hex;
+pub mod job;
+pub mod machine;
+pub mod random;
+pub mod replay;
+pub mod search;
+
+pub use bench::bench_lines;
+pub use fences::fences;
+pub use job::{decode, Job, Refusal};
+pub use replay::replay;
+pub use search::search;

@@ -1,0 +1,691 @@
+//! Repeatable random jobs, buffer sizes and schedules for a comparison.
+
+use crate::job::decode;
+use crate::machine::{successors, State, SLOT_BYTES};
+use crate::search::search;
+
+/// Splitmix64: tiny, and the same numbers everywhere for the same seed.
+#[derive(Clone, Debug)]
+pub struct Random {
+    state: u64,
+}
+
+impl Random {
+    pub fn new(seed: u64) -> Random {
+        Random { state: seed }
+    }
+
+    pub fn word(&mut self) -> u64 {
+        self.state = self.state.wrapping_add(0x9E37_79B9_7F4A_7C15);
+        let mut mixed = self.state;
+        mixed = (mixed ^ (mixed >> 30)).wrapping_mul(0xBF58_476D_1CE4_E5B9);
+        mixed = (mixed ^ (mixed >> 27)).wrapping_mul(0x94D0_49BB_1331_11EB);
+        mixed ^ (mixed >> 31)
+    }
+
+    /// A number from 0 to `bound` - 1; the slight bias does no harm here.
+    pub fn below(&mut self, bound: usize) -> usize {
+        (self.word() % bound as u64) as usize
+    }
+
+    /// A number from `least` to `most`, both included.
+    pub fn between(&mut self, least: usize, most: usize) -> usize {
+        least + self.below(most - least + 1)
+    }
+
+    pub fn byte(&mut self) -> u8 {
+        self.word() as u8
+    }
+
+    pub fn percent(&mut self, chance: usize) -> bool {
+        self.below(100) < chance
+    }
+
+    pub fn pick<T: Copy>(&mut self, choices: &[T]) -> T {
+        choices[self.below(choices.len())]
+    }
+}
+
+/// One comparison: a job, sizes for the lent buffers, and a schedule to replay.
+#[derive(Clone, Debug)]
+pub struct Case {
+    pub job: Vec<u8>,
+    pub sizes: Sizes,
+    pub schedule: Vec<u8>,
+}
+
+/// A mix of all kinds of jobs, most of them sound.
+pub fn case(random: &mut Random) -> Case {
+    let job = match random.below(10) {
+        0 => random_bytes(random),
+        1..=3 => damaged_job(random),
+        _ => sound_job(random),
+    };
+    let sizes = buffer_sizes(random, &job);
+    let schedule = replay_schedule(random, &job);
+    Case {
+        job,
+        sizes,
+        schedule,
+    }
+}
+
+// ---- (a) random bytes ----
+
+/// Random bytes, often with a front good enough to get past the first checks.
+pub fn random_bytes(random: &mut Random) -> Vec<u8> {
+    let most_bytes = random.pick(&[4, 20, 60, 620]);
+    // Small bytes mean something far more often than large ones.
+    let bound = random.pick(&[3, 10, 256]);
+    let count = random.between(0, most_bytes);
+    let mut bytes: Vec<u8> = (0..count).map(|_| random.below(bound) as u8).collect();
+    if random.percent(75) {
+        fix_length(&mut bytes);
+    }
+    if random.percent(66) {
+        for (byte, good) in bytes.iter_mut().skip(2).zip(good_front(random)) {
+            *byte = good;
+        }
+    }
+    bytes
+}
+
+/// Version, model, C, T and V within their ranges.
+fn good_front(random: &mut Random) -> [u8; 5] {
+    let model = random.below(3) as u8;
+    let capacity = some_capacity(random, model);
+    [
+        1,
+        model,
+        capacity,
+        random.between(1, 4) as u8,
+        random.between(1, 8) as u8,
+    ]
+}
+
+/// Makes the length field right, if there is one.
+fn fix_length(bytes: &mut [u8]) {
+    if bytes.len() >= 2 {
+        let follow = (bytes.len() - 2) as u16;
+        bytes[..2].copy_from_slice(&follow.to_be_bytes());
+    }
+}
+
+// ---- (b) sound jobs ----
+
+/// A job file in pieces; count bytes stand apart from what they count, so that they can lie.
+#[derive(Clone, Debug)]
+struct Draft {
+    version: u8,
+    model: u8,
+    capacity: u8,
+    thread_count: u8,
+    variable_count: u8,
+    initial: Vec<u8>,
+    programs: Vec<Program>,
+    flag: u8,
+    clause_count: u8,
+    clauses: Vec<[u8; 4]>,
+}
+
+#[derive(Clone, Debug)]
+struct Program {
+    count: u8,
+    instructions: Vec<[u8; 4]>,
+}
+
+impl Draft {
+    fn bytes(&self) -> Vec<u8> {
+        let header = [
+            self.model,
+            self.capacity,
+            self.thread_count,
+            self.variable_count,
+        ];
+        let mut bytes = vec![0, 0, self.version];
+        bytes.extend(header);
+        bytes.extend(&self.initial);
+        for program in &self.programs {
+            bytes.push(program.count);
+            bytes.extend(program.instructions.iter().flatten());
+        }
+        bytes.extend([self.flag, self.clause_count]);
+        bytes.extend(self.clauses.iter().flatten());
+        fix_length(&mut bytes);
+        bytes
+    }
+}
+
+/// A job that is accepted, with a goal that a random walk has mostly been at.
+pub fn sound_job(random: &mut Random) -> Vec<u8> {
+    sound_draft(random).bytes()
+}
+
+fn sound_draft(random: &mut Random) -> Draft {
+    let longest = random.percent(2);
+    let mut draft = goalless_draft(random, longest);
+    add_goal(random, &mut draft, longest);
+    draft
+}
+
+fn goalless_draft(random: &mut Random, longest: bool) -> Draft {
+    let model = random.below(3) as u8;
+    let threads = if longest {
+        4
+    } else {
+        random.pick(&[1, 1, 2, 2, 2, 2, 3, 3, 4])
+    };
+    let variables = if longest { 8 } else { some_variables(random) };
+    let mut programs = Vec::new();
+    for _ in 0..threads {
+        let count = if longest { 32 } else { some_count(random) };
+        programs.push(sound_program(random, count, variables));
+    }
+    Draft {
+        version: 1,
+        model,
+        capacity: some_capacity(random, model),
+        thread_count: threads,
+        variable_count: variables as u8,
+        initial: (0..variables).map(|_| some_value(random)).collect(),
+        programs,
+        flag: random.below(2) as u8,
+        clause_count: 0,
+        clauses: Vec::new(),
+    }
+}
+
+fn some_capacity(random: &mut Random, model: u8) -> u8 {
+    match model {
+        0 => 0,
+        _ if random.percent(70) => random.between(1, 3) as u8,
+        _ => random.between(1, 8) as u8,
+    }
+}
+
+/// Few variables make threads meet; many are needed for the layout's edges.
+fn some_variables(random: &mut Random) -> usize {
+    let most = random.pick(&[2, 2, 3, 8]);
+    random.between(1, most)
+}
+
+/// Short programs mostly, because their state spaces can be searched in full.
+fn some_count(random: &mut Random) -> usize {
+    match random.below(50) {
+        0 => random.pick(&[31, 32]),
+        1..=3 => random.between(8, 32),
+        4..=10 => random.between(5, 8),
+        _ => random.between(0, 4),
+    }
+}
+
+/// Small values mostly, so that conditions come true; edges sometimes, so that sums wrap.
+fn some_value(random: &mut Random) -> u8 {
+    match random.below(10) {
+        0 => random.byte(),
+        1 => random.pick(&[127, 128, 254, 255]),
+        _ => random.below(3) as u8,
+    }
+}
+
+fn sound_program(random: &mut Random, count: usize, variables: usize) -> Program {
+    let instructions = (0..count)
+        .map(|_| sound_instruction(random, count, variables))
+        .collect();
+    Program {
+        count: count as u8,
+        instructions,
+    }
+}
+
+fn sound_instruction(random: &mut Random, count: usize, variables: usize) -> [u8; 4] {
+    let register = random.pick(&[0, 0, 0, 1, 1, 2, 3]);
+    let variable = random.below(variables) as u8;
+    let place = random.between(0, count) as u8;
+    let value = some_value(random);
+    match random.pick(&[1, 2, 3, 3, 3, 4, 4, 5, 5, 5, 6, 7, 8, 9]) {
+        op @ (1 | 2) => [op, register, 0, value],
+        op @ (3 | 4 | 7) => [op, register, variable, 0],
+        5 => [5, 0, variable, value],
+        6 => [6, 0, 0, 0],
+        8 => [8, register, place, value],
+        op => [op, 0, place, 0],
+    }
+}
+
+fn add_goal(random: &mut Random, draft: &mut Draft, longest: bool) {
+    let state = end_of_walk(random, draft);
+    let count = if longest {
+        16
+    } else {
+        some_clause_count(random)
+    };
+    let mut clauses: Vec<[u8; 4]> = (0..count).map(|_| clause_about(random, &state)).collect();
+    if random.percent(40) {
+        // Naming all places keeps the goal far from the start.
+        let places = state.threads.iter().enumerate();
+        clauses.extend(places.map(|(thread, t)| [1, thread as u8, 0, t.place as u8]));
+    }
+    if random.percent(25) {
+        spoil_a_clause(random, &mut clauses);
+    }
+    if random.percent(10) {
+        contradict_a_clause(random, draft, &mut clauses);
+    }
+    clauses.truncate(16);
+    draft.clause_count = clauses.len() as u8;
+    draft.clauses = clauses;
+}
+
+fn some_clause_count(random: &mut Random) -> usize {
+    match random.below(20) {
+        0 => 0,
+        1 => 16,
+        2 => random.between(0, 16),
+        _ => random.between(1, 5),
+    }
+}
+
+/// The state some random steps away from the start, often with drained buffers if they must be.
+fn end_of_walk(random: &mut Random, draft: &Draft) -> State {
+    let job = decode(&draft.bytes()).expect("a draft without a goal is sound");
+    let mut state = State::start(&job);
+    for _ in 0..random.between(0, 30) {
+        let moves: Vec<State> = successors(&job, &state).into_values().collect();
+        if moves.is_empty() {
+            break;
+        }
+        state = moves[random.below(moves.len())].clone();
+    }
+    if draft.flag == 1 && random.percent(90) {
+        // Flush steps are numbered from 4, so the greatest enabled step drains if any does.
+        while state.threads.iter().any(|thread| thread.pending() > 0) {
+            state = successors(&job, &state)
+                .into_values()
+                .last()
+                .expect("a pending store can go");
+        }
+    }
+    state
+}
+
+/// A clause that is true of the state.
+fn clause_about(random: &mut Random, state: &State) -> [u8; 4] {
+    let thread = random.below(state.threads.len());
+    let register = random.below(4);
+    let variable = random.below(state.memory.len());
+    match random.below(3) {
+        0 => [1, thread as u8, 0, state.threads[thread].place as u8],
+        1 => [
+            2,
+            thread as u8,
+            register as u8,
+            state.threads[thread].registers[register],
+        ],
+        _ => [3, variable as u8, 0, state.memory[variable]],
+    }
+}
+
+/// Asks for another value, which is often never reached; places stay in their range.
+fn spoil_a_clause(random: &mut Random, clauses: &mut [[u8; 4]]) {
+    if clauses.is_empty() {
+        return;
+    }
+    let index = random.below(clauses.len());
+    if clauses[index][0] != 1 {
+        clauses[index][3] = some_value(random);
+    }
+}
+
+/// Adds a second clause about the same thing, sometimes equal and mostly at odds.
+fn contradict_a_clause(random: &mut Random, draft: &Draft, clauses: &mut Vec<[u8; 4]>) {
+    if clauses.is_empty() {
+        return;
+    }
+    let mut rival = clauses[random.below(clauses.len())];
+    rival[3] = match rival[0] {
+        1 => random.between(0, usize::from(draft.programs[usize::from(rival[1])].count)) as u8,
+        _ => some_value(random),
+    };
+    clauses.insert(0, rival);
+}
+
+// ---- (c) damaged jobs ----
+
+/// A sound job with one or two faults, or values at the edge of a fault.
+pub fn damaged_job(random: &mut Random) -> Vec<u8> {
+    let mut draft = sound_draft(random);
+    // Two faults at once show which one wins.
+    let (edges, scars) = random.pick(&[(1, 0), (1, 0), (2, 0), (1, 1), (0, 1), (0, 2)]);
+    for _ in 0..edges {
+        push_to_edge(random, &mut draft);
+    }
+    let mut bytes = draft.bytes();
+    for _ in 0..scars {
+        scar(random, &mut bytes);
+    }
+    bytes
+}
+
+/// Damages the bytes without regard to what they mean.
+fn scar(random: &mut Random, bytes: &mut Vec<u8>) {
+    match random.below(4) {
+        0 => flip_bits(random, bytes),
+        1 => {
+            let rest = random.between(0, bytes.len());
+            bytes.truncate(rest);
+            settle_length(random, bytes);
+        }
+        2 => {
+            let extra = random.pick(&[1, 1, 2, 3, 4, 30]);
+            bytes.extend((0..extra).map(|_| random.pick(&[0, 1, 6, 255])));
+            settle_length(random, bytes);
+        }
+        _ => wrong_length(random, bytes),
+    }
+}
+
+/// Many damaged files get a right length again, so that later checks see the damage.
+fn settle_length(random: &mut Random, bytes: &mut [u8]) {
+    if random.percent(60) {
+        fix_length(bytes);
+    }
+}
+
+fn flip_bits(random: &mut Random, bytes: &mut [u8]) {
+    if bytes.is_empty() {
+        return;
+    }
+    for _ in 0..random.between(1, 3) {
+        // Flips behind the length field are seen by more of the checks.
+        let first = if bytes.len() > 2 && random.percent(90) {
+            2
+        } else {
+            0
+        };
+        let index = random.between(first, bytes.len() - 1);
+        bytes[index] ^= 1 << random.below(8);
+    }
+}
+
+fn wrong_length(random: &mut Random, bytes: &mut [u8]) {
+    if bytes.len() < 2 {
+        return;
+    }
+    let right = bytes.len() as u16 - 2;
+    let wrong = match random.below(5) {
+        0 => right.wrapping_add(1),
+        1 => right.wrapping_sub(1),
+        2 => right + 2,
+        3 => right.swap_bytes(),
+        _ => random.word() as u16,
+    };
+    bytes[..2].copy_from_slice(&wrong.to_be_bytes());
+}
+
+/// Puts one field at or just over the edge of its range.
+fn push_to_edge(random: &mut Random, draft: &mut Draft) {
+    match random.below(13) {
+        0 => draft.version = random.pick(&[0, 2, 255]),
+        1 => draft.model = random.pick(&[0, 1, 2, 3, 255]),
+        2 => draft.capacity = random.pick(&[0, 1, 8, 9, 255]),
+        3 => edge_thread_count(random, draft),
+        4 => edge_variable_count(random, draft),
+        5 => draft.flag = random.pick(&[0, 1, 2, 255]),
+        6 | 7 => edge_program_count(random, draft),
+        8 => edge_clause_count(random, draft),
+        9 | 10 => edge_instruction(random, draft),
+        _ => edge_clause(random, draft),
+    }
+}
+
+fn edge_thread_count(random: &mut Random, draft: &mut Draft) {
+    draft.thread_count = random.pick(&[0, 1, 4, 5]);
+    if random.percent(60) {
+        let count = some_count(random);
+        let filler = sound_program(random, count, draft.initial.len().max(1));
+        draft
+            .programs
+            .resize(usize::from(draft.thread_count), filler);
+    }
+}
+
+fn edge_variable_count(random: &mut Random, draft: &mut Draft) {
+    draft.variable_count = random.pick(&[0, 1, 8, 9]);
+    if random.percent(60) {
+        draft.initial.resize(usize::from(draft.variable_count), 0);
+    }
+}
+
+fn edge_program_count(random: &mut Random, draft: &mut Draft) {
+    if draft.programs.is_empty() {
+        return;
+    }
+    let variables = draft.initial.len().max(1);
+    let thread = random.below(draft.programs.len());
+    let count = random.pick(&[0, 31, 32, 33, 255]);
+    draft.programs[thread] = match random.below(3) {
+        0 => Program {
+            count,
+            instructions: draft.programs[thread].instructions.clone(),
+        },
+        _ => sound_program(random, usize::from(count), variables),
+    };
+}
+
+fn edge_clause_count(random: &mut Random, draft: &mut Draft) {
+    draft.clause_count = random.pick(&[0, 15, 16, 17, 255]);
+    if random.percent(70) {
+        draft
+            .clauses
+            .resize(usize::from(draft.clause_count), [3, 0, 0, 0]);
+    }
+}
+
+fn edge_instruction(random: &mut Random, draft: &mut Draft) {
+    let variables = draft.variable_count;
+    let filled = |program: &&mut Program| !program.instructions.is_empty();
+    let mut programs: Vec<&mut Program> = draft.programs.iter_mut().filter(filled).collect();
+    if programs.is_empty() {
+        return;
+    }
+    let chosen = random.below(programs.len());
+    let count = programs[chosen].count;
+    let place = random.below(programs[chosen].instructions.len());
+    programs[chosen].instructions[place] = instruction_at_edge(random, count, variables);
+}
+
+fn instruction_at_edge(random: &mut Random, count: u8, variables: u8) -> [u8; 4] {
+    let register = random.pick(&[0, 3, 3, 4, 255]);
+    let variable = random.pick(&[0, variables.wrapping_sub(1), variables, 255]);
+    let place = random.pick(&[0, count, count, count.wrapping_add(1), 255]);
+    let value = some_value(random);
+    // Bytes that must be 0 are 0 mostly, so that the operand is what is judged.
+    let zero = random.pick(&[0, 0, 0, 0, 1, 255]);
+    let other_zero = random.pick(&[0, 0, 0, 0, 1]);
+    match random.pick(&[0, 1, 2, 3, 4, 5, 6, 7, 8, 8, 9, 9, 10, 255]) {
+        op @ (1 | 2) => [op, register, zero, value],
+        op @ (3 | 4 | 7) => [op, register, variable, zero],
+        5 => [5, zero, variable, value],
+        6 => [6, zero, other_zero, random.pick(&[0, 0, 0, 1])],
+        8 => [8, register, place, value],
+        9 => [9, zero, place, other_zero],
+        // All operands 0 would be in range anywhere, so only the number can be at fault.
+        op => [op, 0, 0, 0],
+    }
+}
+
+fn edge_clause(random: &mut Random, draft: &mut Draft) {
+    let clause = clause_at_edge(random, draft);
+    if draft.clauses.is_empty() {
+        draft.clauses.push(clause);
+        draft.clause_count = draft.clause_count.wrapping_add(1);
+    } else {
+        let index = random.below(draft.clauses.len());
+        draft.clauses[index] = clause;
+    }
+}
+
+fn clause_at_edge(random: &mut Random, draft: &Draft) -> [u8; 4] {
+    let last = draft.thread_count.wrapping_sub(1);
+    let thread = random.pick(&[0, last, last, draft.thread_count]);
+    let count = draft
+        .programs
+        .get(usize::from(thread))
+        .map_or(0, |program| program.count);
+    let place = random.pick(&[0, count, count, count.wrapping_add(1), 255]);
+    let register = random.pick(&[0, 3, 3, 4, 255]);
+    let variables = draft.variable_count;
+    let variable = random.pick(&[0, variables.wrapping_sub(1), variables, 255]);
+    let zero = random.pick(&[0, 0, 0, 1, 255]);
+    let value = some_value(random);
+    match random.pick(&[0, 1, 1, 1, 2, 2, 3, 3, 4, 255]) {
+        1 => [1, thread, zero, place],
+        2 => [2, thread, register, value],
+        3 => [3, variable, zero, value],
+        kind => [kind, 0, 0, 0],
+    }
+}
+
+// ---- buffer sizes ----
+
+/// How many table bytes, links and schedule bytes to lend.
+#[derive(Clone, Copy, Debug, PartialEq, Eq)]
+pub struct Sizes {
+    pub table: usize,
+    pub links: usize,
+    pub schedule: usize,
+}
+
+/// Slots that a first search may use to learn how many states there are to count.
+const PROBE_SLOTS: usize = 1024;
+
+/// Sizes for a search, many of them at an edge of N.
+pub fn buffer_sizes(random: &mut Random, job: &[u8]) -> Sizes {
+    match random.below(10) {
+        0 => tiny_sizes(random),
+        1 => {
+            let slots = random.between(1, 40);
+            narrowed(random, slots)
+        }
+        2 => narrowed(random, 640),
+        3 => {
+            let slots = random.between(1, PROBE_SLOTS);
+            narrowed(random, slots)
+        }
+        _ => {
+            let slots = around_the_count(random, job);
+            narrowed(random, slots)
+        }
+    }
+}
+
+fn tiny_sizes(random: &mut Random) -> Sizes {
+    Sizes {
+        table: random.pick(&[0, 1, 95, 96, 97, 191, 192, 193, 960]),
+        links: random.pick(&[0, 1, 2, 3, 10]),
+        schedule: random.pick(&[0, 1, 2, 3, 10]),
+    }
+}
+
+/// One below, at or one above the number of states that a search counts with enough slots.
+fn around_the_count(random: &mut Random, job: &[u8]) -> usize {
+    let mut table = vec![0; PROBE_SLOTS * SLOT_BYTES];
+    let mut links = vec![0; PROBE_SLOTS];
+    let mut schedule = vec![0; PROBE_SLOTS];
+    let count = match search(job, &mut table, &mut links, &mut schedule) {
+        [1, _, states, _] => states as usize,
+        [2, states, _, _] => states as usize,
+        _ => random.between(1, PROBE_SLOTS),
+    };
+    random.pick(&[count.saturating_sub(1), count, count, count + 1])
+}
+
+/// Makes N equal `slots`, with any of the three buffers the smallest.
+fn narrowed(random: &mut Random, slots: usize) -> Sizes {
+    let spare = random.pick(&[0, 0, 1, 7]);
+    let part_of_a_slot = random.pick(&[0, 0, 1, 95]);
+    let table = slots * SLOT_BYTES + part_of_a_slot;
+    let roomy_table = table + spare * SLOT_BYTES;
+    match random.below(4) {
+        0 => Sizes {
+            table,
+            links: slots + spare,
+            schedule: slots + spare,
+        },
+        1 => Sizes {
+            table: roomy_table,
+            links: slots,
+            schedule: slots + spare,
+        },
+        2 => Sizes {
+            table: roomy_table,
+            links: slots + spare,
+            schedule: slots,
+        },
+        _ => Sizes {
+            table,
+            links: slots,
+            schedule: slots,
+        },
+    }
+}
+
+// ---- schedules ----
+
+/// A schedule for replay: found ones, walks, walks with a bad step, and random bytes.
+pub fn replay_schedule(random: &mut Random, job: &[u8]) -> Vec<u8> {
+    let mut schedule = match random.below(10) {
+        0..=2 => found_schedule(job),
+        3..=8 => walk_schedule(random, job),
+        _ => (0..random.between(0, 12))
+            .map(|_| random.below(40) as u8)
+            .collect(),
+    };
+    if random.percent(15) {
+        spoil_a_step(random, &mut schedule);
+    }
+    if random.percent(10) {
+        schedule.push(random.below(36) as u8);
+    }
+    schedule
+}
+
+fn found_schedule(job: &[u8]) -> Vec<u8> {
+    let mut table = vec![0; PROBE_SLOTS * SLOT_BYTES];
+    let mut links = vec![0; PROBE_SLOTS];
+    let mut schedule = vec![0; PROBE_SLOTS];
+    match search(job, &mut table, &mut links, &mut schedule) {
+        [1, distance, _, _] => schedule[..distance as usize].to_vec(),
+        _ => Vec::new(),
+    }
+}
+
+fn walk_schedule(random: &mut Random, job: &[u8]) -> Vec<u8> {
+    let mut schedule = Vec::new();
+    if let Ok(job) = decode(job) {
+        let mut state = State::start(&job);
+        for _ in 0..random.between(0, 40) {
+            let mut moves: Vec<(u8, State)> = successors(&job, &state).into_iter().collect();
+            if moves.is_empty() {
+                break;
+            }
+            let (step, next) = moves.swap_remove(random.below(moves.len()));
+            schedule.push(step);
+            state = next;
+        }
+    }
+    schedule
+}
+
+/// Numbers just above the last step, and ones that reappear as steps when bits are lost.
+fn spoil_a_step(random: &mut Random, schedule: &mut Vec<u8>) {
+    let low_byte = random.below(36) as u8;
+    let bad = random.pick(&[36, 63, 64, 255, 64 + low_byte, 128 + low_byte, low_byte]);
+    if schedule.is_empty() {
+        schedule.push(bad);
+    } else {
+        let index = random.below(schedule.len());
+        schedule[index] = bad;
+    }
+}

@@ -1,0 +1,120 @@
+//! The generators give what a comparison needs, and the same every time.
+
+mod common;
+use common::*;
+use second::random::{
+    buffer_sizes, case, damaged_job, random_bytes, replay_schedule, sound_job, Random,
+};
+use second::{decode, replay};
+use std::collections::BTreeSet;
+
+#[test]
+fn the_same_seed_gives_the_same_cases() {
+    let jobs = |seed| {
+        let mut random = Random::new(seed);
+        (0..50)
+            .map(|_| case(&mut random))
+            .map(|c| (c.job, c.schedule))
+            .collect::<Vec<_>>()
+    };
+    assert_eq!(jobs(1), jobs(1));
+    assert_ne!(jobs(1), jobs(2));
+}
+
+#[test]
+fn sound_jobs_are_accepted_and_give_all_answers() {
+    let mut random = Random::new(3);
+    let (mut kinds, mut far) = ([0; 4], 0);
+    for _ in 0..1_000 {
+        let bytes = sound_job(&mut random);
+        assert!(decode(&bytes).is_ok(), "{bytes:?}");
+        let answer = run(&bytes, 300).answer;
+        kinds[answer[0] as usize] += 1;
+        far += usize::from(answer[0] == 1 && answer[1] >= 4);
+    }
+    assert!(
+        kinds[1] > 300 && kinds[2] > 50 && kinds[3] > 50,
+        "{kinds:?}"
+    );
+    assert!(
+        far > 200,
+        "only {far} of 1000 goals are four steps away or more"
+    );
+}
+
+#[test]
+fn sound_jobs_reach_the_edges_of_the_ranges() {
+    let mut random = Random::new(4);
+    let (mut lengths, mut shapes) = (BTreeSet::new(), BTreeSet::new());
+    let mut longest = 0;
+    for _ in 0..5_000 {
+        let bytes = sound_job(&mut random);
+        let job = decode(&bytes).unwrap();
+        lengths.extend(job.programs.iter().map(Vec::len));
+        shapes.insert(("model", job.model as usize));
+        shapes.insert(("capacity", job.capacity));
+        shapes.insert(("threads", job.programs.len()));
+        shapes.insert(("variables", job.initial.len()));
+        shapes.insert(("clauses", job.goal.clauses.len()));
+        shapes.insert(("flag", usize::from(job.goal.buffers_empty)));
+        longest = longest.max(bytes.len());
+    }
+    assert_eq!(lengths, (0..=32).collect());
+    assert_eq!(shapes.len(), 3 + 9 + 4 + 8 + 17 + 2);
+    assert_eq!(longest, 597);
+}
+
+#[test]
+fn damaged_jobs_meet_every_refusal() {
+    let mut random = Random::new(5);
+    let mut refusals = [0; 8];
+    let mut sizes = BTreeSet::new();
+    for _ in 0..20_000 {
+        let bytes = damaged_job(&mut random);
+        sizes.insert(bytes.len());
+        let number = decode(&bytes).err().map_or(0, |refusal| refusal.number);
+        refusals[usize::from(number)] += 1;
+    }
+    assert!(
+        refusals[..7].iter().all(|&count| count > 500),
+        "{refusals:?}"
+    );
+    assert!(sizes.contains(&597) && sizes.contains(&598));
+}
+
+#[test]
+fn random_bytes_get_past_the_first_checks() {
+    let mut random = Random::new(6);
+    let numbers: BTreeSet<u8> = (0..5_000)
+        .filter_map(|_| decode(&random_bytes(&mut random)).err())
+        .map(|refusal| refusal.number)
+        .collect();
+    assert_eq!(numbers, (1..=6).collect());
+}
+
+#[test]
+fn sizes_hit_the_edges_of_n() {
+    let mut random = Random::new(7);
+    let mut edges = BTreeSet::new();
+    for _ in 0..2_000 {
+        let sizes = buffer_sizes(&mut random, &p1());
+        edges.insert(run_sized(&p1(), sizes.table, sizes.links, sizes.schedule).answer);
+    }
+    for wanted in [[0, 7, 0, 0], [3, 1, 0, 0], [3, 21, 0, 0], [1, 4, 22, 0]] {
+        assert!(edges.contains(&wanted), "{wanted:?}");
+    }
+}
+
+#[test]
+fn schedules_give_all_replay_answers() {
+    let mut random = Random::new(8);
+    let (mut kinds, mut steps) = ([0; 4], BTreeSet::new());
+    for _ in 0..2_000 {
+        let bytes = sound_job(&mut random);
+        let schedule = replay_schedule(&mut random, &bytes);
+        kinds[replay(&bytes, &schedule)[0] as usize] += 1;
+        steps.extend(schedule);
+    }
+    assert!(kinds[1..].iter().all(|&count| count > 200), "{kinds:?}");
+    assert!([36, 63, 64, 255].iter().all(|step| steps.contains(step)));
+}
