@@ -6,10 +6,13 @@ pub mod bench;
 pub mod fences;
 pub mod hex;
 pub mod job;
+pub mod job_cases;
+pub mod listed;
 pub mod machine;
 pub mod random;
 pub mod replay;
 pub mod search;
+pub mod search_cases;
 
 pub use bench::bench_lines;
 pub use fences::fences;

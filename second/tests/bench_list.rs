@@ -54,6 +54,26 @@ fn p12() -> Vec<u8> {
 }
 
 #[test]
+fn listed_jobs_are_these() {
+    let mp = message_passing;
+    let these = [
+        p1(),
+        p2(),
+        p3(),
+        p4(),
+        p5(),
+        mp(pso(2)),
+        mp(pso(1)),
+        mp(tso(2)),
+        p9(),
+        p10(),
+        p10(),
+        p12(),
+    ];
+    assert_eq!(second::listed::bench_list(), these);
+}
+
+#[test]
 fn p1_store_buffering() {
     assert_eq!(
         bench_lines(&p1()),

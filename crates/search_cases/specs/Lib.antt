@@ -1,0 +1,2 @@
+-- What may be lent for a case.
+pub mod Room

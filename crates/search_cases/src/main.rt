@@ -1,0 +1,238 @@
+// Searches each case on standard input in lent memory of its sizes, and prints the answer and a sum over each whole memory afterwards.
+// A case is the numbers of table bytes, links and schedule bytes to lend, four bytes each, the count of the job's bytes, two bytes,
+// all big-endian, and then the job.
+use libc::STDIN_FILENO;
+use libc::STDOUT_FILENO;
+use search::Answer;
+ghost use Prim.Native.Nat.{_<_};
+ghost use Rattle.search_cases.specs.Room.{Within, RoomFor, Fits};
+
+// All that there is to lend; a case that asks for more ends the run.
+const TABLE_ROOM: usize = 65536;
+
+const LINKS_ROOM: usize = 1024;
+
+const SCHEDULE_ROOM: usize = 1024;
+
+const LONGEST_JOB: usize = 1024;
+
+const HEAD_SIZE: usize = 14;
+
+// The largest prime below 2^32.
+const SUM_MODULUS: u64 = 4294967291;
+
+// How much of each memory is lent for a case, and the count of its job's bytes.
+struct Sizes {
+    table: usize,
+    links: usize,
+    schedule: usize,
+    job: usize,
+}
+
+enum Head {
+    Case(Sizes),
+    End,
+}
+
+fn wide(x: u8) -> usize
+    ensures { λ r. ⌜ r < 256 ⌝ }
+{
+    x as usize
+}
+
+fn pair(high: u8, low: u8) -> usize
+    ensures { λ r. ⌜ r < 65536 ⌝ }
+{
+    wide(high) * 256 + wide(low)
+}
+
+fn read_head() -> Head {
+    let mut head = [0u8; HEAD_SIZE];
+    let got = io::read_full(STDIN_FILENO, &mut head);
+    if got < HEAD_SIZE {
+        return Head::End;
+    }
+    Head::Case(Sizes {
+        table: pair(head[0], head[1]) * 65536 + pair(head[2], head[3]),
+        links: pair(head[4], head[5]) * 65536 + pair(head[6], head[7]),
+        schedule: pair(head[8], head[9]) * 65536 + pair(head[10], head[11]),
+        job: pair(head[12], head[13]),
+    })
+}
+
+// Whether all of the job's bytes were there.
+fn read_job(job: &mut [u8]) -> bool {
+    let got = io::read_full(STDIN_FILENO, job);
+    got == job.len()
+}
+
+// A blank, and the number in decimal.
+fn print_number(n: u64) {
+    io::write_all(STDOUT_FILENO, b" ");
+    io::print_decimal(STDOUT_FILENO, n);
+}
+
+fn print_answer(answer: Answer) {
+    match answer {
+        Answer::Refused(number, offset) => {
+            io::write_all(STDOUT_FILENO, b"REFUSED");
+            print_number(number as u64);
+            print_number(offset as u64);
+        }
+        Answer::Reachable(distance, states) => {
+            io::write_all(STDOUT_FILENO, b"REACHABLE");
+            print_number(distance as u64);
+            print_number(states as u64);
+        }
+        Answer::Unreachable(states) => {
+            io::write_all(STDOUT_FILENO, b"UNREACHABLE");
+            print_number(states as u64);
+        }
+        Answer::Unknown(slots) => {
+            io::write_all(STDOUT_FILENO, b"UNKNOWN");
+            print_number(slots as u64);
+        }
+    }
+    io::write_all(STDOUT_FILENO, b"\n");
+}
+
+// 7 more, modulo 251: no power of two, so that no two slots near each other hold the same bytes.
+fn after(x: u8) -> u8 {
+    if x < 244 { x + 7 } else { x - 244 }
+}
+
+fn fill(bytes: &mut [u8], first: u8) {
+    let mut x = first;
+    let mut i = 0;
+    while i < bytes.len() {
+        bytes[i] = x;
+        x = after(x);
+        i += 1;
+    }
+}
+
+fn fill_links(links: &mut [u32], first: u32) {
+    let mut x = first;
+    let mut i = 0;
+    while i < links.len() {
+        links[i] = x;
+        x = std::num::wrapping_add_u32(x, 1);
+        i += 1;
+    }
+}
+
+fn mixed(sum: u64, x: u32) -> u64
+    ensures { λ r. ⌜ r < 4294967291 ⌝ }
+{
+    ((sum % SUM_MODULUS) * 31 + x as u64) % SUM_MODULUS
+}
+
+fn byte(x: u8) -> u32 {
+    x as u32
+}
+
+fn sum_of(bytes: &[u8]) -> u64 {
+    let mut sum = 0;
+    let mut i = 0;
+    while i < bytes.len() {
+        sum = mixed(sum, byte(bytes[i]));
+        i += 1;
+    }
+    sum
+}
+
+fn sum_of_links(links: &[u32]) -> u64 {
+    let mut sum = 0;
+    let mut i = 0;
+    while i < links.len() {
+        sum = mixed(sum, links[i]);
+        i += 1;
+    }
+    sum
+}
+
+fn print_sums(table: &[u8], links: &[u32], schedule: &[u8]) {
+    io::write_all(STDOUT_FILENO, b"SUMS");
+    print_number(sum_of(table));
+    print_number(sum_of_links(links));
+    print_number(sum_of(schedule));
+    io::write_all(STDOUT_FILENO, b"\n");
+}
+
+// The search with the first so many of each memory lent; the sums are over all of it, lent or not.
+fn run_search(table: &mut [u8], links: &mut [u32], schedule: &mut [u8], sizes: Sizes, job: &[u8])
+    requires { ⌜ Within sizes (now table) (now links) (now schedule) ⌝ }
+{
+    fill(table, 3);
+    fill_links(links, 1000003);
+    fill(schedule, 5);
+    let table_size = sizes.table;
+    let links_size = sizes.links;
+    let schedule_size = sizes.schedule;
+    let answer = search::search(
+        &mut table[0..table_size],
+        &mut links[0..links_size],
+        &mut schedule[0..schedule_size],
+        job,
+    );
+    print_answer(answer);
+    print_sums(table, links, schedule);
+}
+
+// One case, whose job is read to the front of its room. Whether it was wholly there.
+fn run_case(
+    table: &mut [u8],
+    links: &mut [u32],
+    schedule: &mut [u8],
+    job: &mut [u8],
+    sizes: Sizes,
+) -> bool
+    requires { ⌜ RoomFor sizes (now table) (now links) (now schedule) (now job) ⌝ }
+{
+    let count = sizes.job;
+    if read_job(&mut job[0..count]) {
+        run_search(table, links, schedule, sizes, &job[0..count]);
+        true
+    } else {
+        false
+    }
+}
+
+// One case that asks for no more than there is.
+fn run_sized(sizes: Sizes) -> bool
+    requires { ⌜ Fits sizes ⌝ }
+{
+    let mut table = [0u8; TABLE_ROOM];
+    let mut links = [0u32; LINKS_ROOM];
+    let mut schedule = [0u8; SCHEDULE_ROOM];
+    let mut job = [0u8; LONGEST_JOB];
+    run_case(&mut table, &mut links, &mut schedule, &mut job, sizes)
+}
+
+// One case. Whether there was one, and room for it.
+fn run_next() -> bool {
+    let Head::Case(sizes) = read_head() else {
+        return false;
+    };
+    if sizes.table > TABLE_ROOM {
+        return false;
+    }
+    if sizes.links > LINKS_ROOM {
+        return false;
+    }
+    if sizes.schedule > SCHEDULE_ROOM {
+        return false;
+    }
+    if sizes.job > LONGEST_JOB {
+        return false;
+    }
+    run_sized(sizes)
+}
+
+// A proved loop has to end, so it counts its turns down, from a number that no run uses up.
+fn main() {
+    let mut turns = u64::MAX;
+    while turns > 0 && run_next() {
+        turns -= 1;
+    }
+}

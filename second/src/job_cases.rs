@@ -1,0 +1,201 @@
+//! Cases for the decoder, and the line that each is answered with.
+
+use crate::job::decode;
+use crate::listed::{
+    at_the_limit, bench_list, file, settled, with_byte, Program, P1, PSO, SC, TSO,
+};
+
+/// What the program under test prints for a case.
+pub fn line(job: &[u8]) -> String {
+    match decode(job) {
+        Ok(_) => "ACCEPTED\n".to_string(),
+        Err(refusal) => format!("REFUSED {} {}\n", refusal.number, refusal.offset),
+    }
+}
+
+pub fn all() -> Vec<Vec<u8>> {
+    let groups = [
+        short_and_long(),
+        damaged_listed(),
+        heads(),
+        counts(),
+        operations(),
+        clauses(),
+        at_limits(),
+        bench_list(),
+    ];
+    groups.concat()
+}
+
+/// Few zeros, and sizes about the longest.
+fn short_and_long() -> Vec<Vec<u8>> {
+    let mut cases: Vec<Vec<u8>> = (0..=8).map(|count| vec![0; count]).collect();
+    cases.extend([vec![0, 1, 1], vec![0, 1, 2], vec![0, 1, 0]]);
+    for count in [596, 597, 598, 599, 1024] {
+        let right = settled(vec![0; count]);
+        cases.extend(lengths_about(&right));
+        // A good front leaves only the size to judge.
+        cases.push(settled(padded(&P1, count)));
+        cases.push(settled(padded(&at_the_limit(), count)));
+    }
+    cases
+}
+
+/// Cut or filled up with zeros to this size.
+fn padded(bytes: &[u8], count: usize) -> Vec<u8> {
+    let mut padded = bytes.to_vec();
+    padded.resize(count, 0);
+    padded
+}
+
+/// The same with the length field right, one less and one more.
+fn lengths_about(bytes: &[u8]) -> Vec<Vec<u8>> {
+    let right = bytes.len() as u16 - 2;
+    let set = |field: u16| [&field.to_be_bytes()[..], &bytes[2..]].concat();
+    vec![set(right), set(right - 1), set(right + 1)]
+}
+
+/// P1 cut anywhere, grown, with each operation at its first place, and with each bit flipped.
+fn damaged_listed() -> Vec<Vec<u8>> {
+    let mut cases = lengths_about(&P1);
+    for count in 0..P1.len() {
+        cases.push(P1[..count].to_vec());
+        cases.push(settled(P1[..count].to_vec()));
+    }
+    for count in P1.len() + 1..P1.len() + 6 {
+        cases.push(padded(&P1, count));
+        cases.push(settled(padded(&P1, count)));
+    }
+    cases.extend((0..=255).map(|op| with_byte(&P1, 10, op)));
+    for at in 0..P1.len() {
+        cases.extend((0..8).map(|bit| with_byte(&P1, at, P1[at] ^ (1 << bit))));
+    }
+    cases
+}
+
+/// Version, model, C, T and V about their ranges; the first fault wins over later ones.
+fn heads() -> Vec<Vec<u8>> {
+    let mut cases = Vec::new();
+    for value in NEAR {
+        for at in 2..=6 {
+            cases.push(with_byte(&P1, at, value));
+        }
+        for memory in [SC, [TSO, 1], [PSO, 1]] {
+            let job = file(memory, &[0], &[vec![]], 0, &[]);
+            cases.push(with_byte(&job, 4, value));
+            // A later fault, and one that only shows when all before is right.
+            cases.push(with_byte(&with_byte(&job, 4, value), 5, 0));
+            cases.push(settled(with_byte(&job, 4, value)[..5].to_vec()));
+        }
+    }
+    cases
+}
+
+/// Each count about its range, with so many items behind it and with one too few and too many.
+fn counts() -> Vec<Vec<u8>> {
+    let mut cases = Vec::new();
+    for count in 0..=10 {
+        cases.extend(lying(
+            &file([TSO, 1], &vec![7; count], &[vec![]], 0, &[]),
+            6,
+        ));
+        cases.extend(lying(
+            &file([PSO, 8], &[0], &vec![vec![]; count], 0, &[]),
+            5,
+        ));
+        cases.extend(lying(
+            &file(SC, &[0], &[vec![]], 0, &vec![[3, 0, 0, 0]; count]),
+            10,
+        ));
+    }
+    for count in [15, 16, 17, 18, 31, 32, 33, 34] {
+        let program: Program = vec![[6, 0, 0, 0]; count];
+        let clauses = vec![[3, 0, 0, 9]; count];
+        cases.extend(lying(
+            &file(SC, &[0], &[vec![], program.clone()], 0, &[]),
+            9,
+        ));
+        cases.extend(lying(&file(SC, &[0], &[program], 0, &[[1, 0, 0, 32]]), 8));
+        cases.extend(lying(&file(SC, &[0], &[vec![]], 1, &clauses), 10));
+    }
+    for flag in NEAR {
+        cases.push(file(SC, &[0], &[vec![]], flag, &[]));
+        // With a bad flag the number of clauses isn't judged any more.
+        cases.push(with_byte(&file(SC, &[0], &[vec![]], flag, &[]), 10, 17));
+    }
+    cases
+}
+
+/// The job, and the same with one less and one more at this byte.
+fn lying(job: &[u8], at: usize) -> Vec<Vec<u8>> {
+    let count = job[at];
+    [count, count.wrapping_sub(1), count + 1]
+        .map(|value| with_byte(job, at, value))
+        .to_vec()
+}
+
+/// Operands are tried at these values, among which are the edges of every range in the jobs here.
+const NEAR: [u8; 12] = [0, 1, 2, 3, 4, 5, 6, 7, 8, 9, 128, 255];
+
+/// Each operand of each operation, among three variables and six places, in both threads.
+fn operations() -> Vec<Vec<u8>> {
+    let mut cases = Vec::new();
+    for op in 1..=9 {
+        for operand in 1..=3 {
+            for value in NEAR {
+                let mut instruction = [op, 0, 0, 0];
+                instruction[operand] = value;
+                cases.push(among_others(instruction));
+            }
+        }
+    }
+    cases
+}
+
+fn among_others(instruction: [u8; 4]) -> Vec<u8> {
+    let fence = [6, 0, 0, 0];
+    let other = vec![fence; 3];
+    let tried = vec![fence, fence, instruction, fence, fence, fence];
+    file([TSO, 2], &[0; 3], &[other, tried], 0, &[])
+}
+
+/// Each kind of clause and each of its operands, among three threads of 1, 3 and 6 places.
+fn clauses() -> Vec<Vec<u8>> {
+    let mut cases = Vec::new();
+    for kind in [0, 1, 2, 3, 4, 255] {
+        for operand in 1..=3 {
+            for value in NEAR {
+                let mut clause = [kind, 0, 0, 0];
+                clause[operand] = value;
+                cases.push(behind_another(clause));
+            }
+        }
+    }
+    // The last place is that of the thread named.
+    for thread in 0..=3 {
+        cases.extend(NEAR.map(|place| behind_another([1, thread, 0, place])));
+    }
+    cases
+}
+
+fn behind_another(clause: [u8; 4]) -> Vec<u8> {
+    let programs = [1, 3, 6].map(|count| vec![[6, 0, 0, 0]; count]);
+    file(SC, &[0; 5], &programs, 0, &[[2, 2, 3, 255], clause])
+}
+
+/// The longest file, and it with a fault in its last instruction and in its last clause.
+fn at_limits() -> Vec<Vec<u8>> {
+    let longest = at_the_limit();
+    let last_instruction = 527;
+    let last_clause = longest.len() - 4;
+    let mut cases = lengths_about(&longest);
+    for begin in [last_instruction, last_clause] {
+        for at in begin..begin + 4 {
+            cases.extend([0, 4, 8, 33, 255].map(|value| with_byte(&longest, at, value)));
+        }
+    }
+    for count in longest.len() - 5..longest.len() {
+        cases.push(settled(longest[..count].to_vec()));
+    }
+    cases
+}

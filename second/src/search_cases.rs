@@ -1,0 +1,286 @@
+//! Cases for the search in lent memory, and the two lines that each is answered with.
+
+use crate::listed::{
+    at_the_limit, bench_list, file, message_passing, with_byte, Memory, P1, PSO, SC, TSO,
+};
+use crate::machine::SLOT_BYTES;
+use crate::random::{buffer_sizes, sound_job, Random, Sizes};
+use crate::search::search;
+
+/// A job, and how much of each memory is lent for it.
+#[derive(Clone)]
+pub struct Case {
+    pub sizes: Sizes,
+    pub job: Vec<u8>,
+}
+
+/// All that there is to lend.
+const ROOM: Sizes = Sizes {
+    table: 65_536,
+    links: 1024,
+    schedule: 1024,
+};
+
+/// What the program under test prints for a case: the answer, and a sum over each whole memory.
+pub fn lines(case: &Case) -> String {
+    let mut table = pattern(ROOM.table, 3);
+    let mut links: Vec<u32> = (1_000_003..).take(ROOM.links).collect();
+    let mut schedule = pattern(ROOM.schedule, 5);
+    let answer = search(
+        &case.job,
+        &mut table[..case.sizes.table],
+        &mut links[..case.sizes.links],
+        &mut schedule[..case.sizes.schedule],
+    );
+    let sums = [
+        sum(table.into_iter().map(u64::from)),
+        sum(links.into_iter().map(u64::from)),
+        sum(schedule.into_iter().map(u64::from)),
+    ];
+    format!(
+        "{}\nSUMS {} {} {}\n",
+        answer_line(answer),
+        sums[0],
+        sums[1],
+        sums[2]
+    )
+}
+
+/// Byte i is (7 i + first) mod 251.
+fn pattern(count: usize, first: usize) -> Vec<u8> {
+    (0..count).map(|i| ((7 * i + first) % 251) as u8).collect()
+}
+
+/// The value of the elements as digits in base 31, modulo the largest prime below 2^32.
+fn sum(elements: impl Iterator<Item = u64>) -> u64 {
+    elements.fold(0, |sum, x| (sum * 31 + x) % 4_294_967_291)
+}
+
+fn answer_line([kind, first, second, _]: [u64; 4]) -> String {
+    match kind {
+        0 => format!("REFUSED {first} {second}"),
+        1 => format!("REACHABLE {first} {second}"),
+        2 => format!("UNREACHABLE {first}"),
+        _ => format!("UNKNOWN {first}"),
+    }
+}
+
+pub fn all() -> Vec<Case> {
+    let groups = [
+        goal_at_the_start(),
+        every_room(),
+        about_the_count(),
+        narrow_buffers(),
+        refused(),
+        with_all_the_room(),
+        random_jobs(),
+    ];
+    groups.concat()
+}
+
+/// Just so many slots, the table, the links or the schedule being the smallest by turns.
+fn lent(job: &[u8], slots: usize, turn: usize) -> Case {
+    let roomy = slots + 2;
+    let pick = |which: usize| if turn % 3 == which { slots } else { roomy };
+    Case {
+        sizes: Sizes {
+            table: pick(0) * SLOT_BYTES + turn % SLOT_BYTES,
+            links: pick(1),
+            schedule: pick(2),
+        },
+        job: job.to_vec(),
+    }
+}
+
+/// How many states the search counts with all the room, and so from how many slots on the answer stays.
+fn count(job: &[u8]) -> usize {
+    let mut table = vec![0; ROOM.table];
+    let mut links = vec![0; ROOM.links];
+    let mut schedule = vec![0; ROOM.schedule];
+    match search(job, &mut table, &mut links, &mut schedule) {
+        [1, _, states, _] | [2, states, _, _] => states as usize,
+        _ => ROOM.table / SLOT_BYTES,
+    }
+}
+
+const MEMORIES: [Memory; 6] = [SC, [TSO, 1], [TSO, 2], [PSO, 1], [PSO, 2], [PSO, 8]];
+
+fn goal_at_the_start() -> Vec<Case> {
+    let program = vec![[5, 0, 0, 1], [3, 0, 0, 0]];
+    let mut cases = Vec::new();
+    for memory in MEMORIES {
+        for clauses in [vec![], vec![[1, 0, 0, 0], [2, 0, 3, 0], [3, 0, 0, 7]]] {
+            let job = file(memory, &[7], &[program.clone()], 1, &clauses);
+            cases.extend((0..3).map(|slots| lent(&job, slots, slots)));
+        }
+    }
+    cases
+}
+
+/// Every room up to one more than is needed: where a level ends, within it, and with a goal in the part that fits.
+fn every_room() -> Vec<Case> {
+    let mut cases = Vec::new();
+    for job in bench_list() {
+        for slots in 0..=count(&job) + 1 {
+            cases.push(lent(&job, slots, slots));
+        }
+    }
+    cases
+}
+
+/// One slot less than is needed, as many and one more, each buffer being the smallest.
+fn about_the_count() -> Vec<Case> {
+    let mut cases = Vec::new();
+    for memory in MEMORIES {
+        for job in [
+            message_passing(memory),
+            load_buffering(memory),
+            exchanges(memory),
+            own_loads(memory),
+            seen_by_two_readers(memory),
+        ] {
+            let needed = count(&job);
+            for slots in [needed - 1, needed, needed + 1] {
+                cases.extend((0..3).map(|turn| lent(&job, slots, turn)));
+            }
+        }
+    }
+    cases.retain(|case| fits(case.sizes));
+    cases
+}
+
+fn fits(sizes: Sizes) -> bool {
+    sizes.table <= ROOM.table && sizes.links <= ROOM.links && sizes.schedule <= ROOM.schedule
+}
+
+/// Each thread loads what the other stores later: no model here lets both see it.
+fn load_buffering(memory: Memory) -> Vec<u8> {
+    let first = vec![[3, 0, 0, 0], [5, 0, 1, 1]];
+    let second = vec![[3, 0, 1, 0], [5, 0, 0, 1]];
+    let goal = [[2, 0, 0, 1], [2, 1, 0, 1]];
+    file(memory, &[0, 0], &[first, second], 0, &goal)
+}
+
+/// Two threads that take turns by an exchange in a loop, and count in registers that wrap.
+fn exchanges(memory: Memory) -> Vec<u8> {
+    let thread = vec![
+        [1, 0, 0, 1],
+        [7, 0, 0, 0],
+        [8, 0, 1, 1],
+        [2, 1, 0, 255],
+        [5, 0, 0, 0],
+    ];
+    let goal = [[1, 0, 0, 5], [1, 1, 0, 5], [3, 0, 0, 0]];
+    file(memory, &[0], &[thread.clone(), thread], 1, &goal)
+}
+
+/// Three stores of one thread to two variables, and loads that have to take the newest of them.
+fn own_loads(memory: Memory) -> Vec<u8> {
+    let writer = vec![
+        [5, 0, 0, 1],
+        [5, 0, 1, 2],
+        [1, 2, 0, 3],
+        [4, 2, 0, 0],
+        [3, 0, 0, 0],
+        [3, 1, 1, 0],
+        [6, 0, 0, 0],
+    ];
+    let goal = [[2, 0, 0, 3], [2, 0, 1, 2], [3, 0, 0, 1]];
+    file(memory, &[0, 0], &[writer], 0, &goal)
+}
+
+/// Two writers and two readers: four threads at work at once make wide levels.
+fn seen_by_two_readers(memory: Memory) -> Vec<u8> {
+    let programs = [
+        vec![[5, 0, 0, 1]],
+        vec![[5, 0, 1, 1]],
+        vec![[3, 0, 0, 0], [3, 1, 1, 0]],
+        vec![[3, 0, 1, 0], [3, 1, 0, 0]],
+    ];
+    let goal = [[2, 2, 0, 1], [2, 2, 1, 0], [2, 3, 0, 1], [1, 3, 0, 2]];
+    file(memory, &[0, 0], &programs, 0, &goal)
+}
+
+/// Table bytes about whole slots, and buffers of few elements or none.
+fn narrow_buffers() -> Vec<Case> {
+    let mut cases = Vec::new();
+    for table in [0, 1, 95, 96, 97, 191, 192, 193, 2111, 2112, 2113] {
+        for links in [0, 1, 21, 22, 1024] {
+            for schedule in [0, 1, 3, 4, 21, 22, 1024] {
+                let sizes = Sizes {
+                    table,
+                    links,
+                    schedule,
+                };
+                cases.push(Case {
+                    sizes,
+                    job: P1.to_vec(),
+                });
+            }
+        }
+    }
+    cases
+}
+
+/// Each kind of refusal by the job itself, with all the room and with none at all.
+fn refused() -> Vec<Case> {
+    let none = Sizes {
+        table: 0,
+        links: 0,
+        schedule: 0,
+    };
+    let longer = [&at_the_limit()[..], &[0]].concat();
+    let jobs = [
+        vec![],
+        vec![0, 1, 2],
+        vec![0, 1, 1],
+        with_byte(&P1, 3, 3),
+        with_byte(&P1, 10, 10),
+        with_byte(&P1, 27, 2),
+        with_byte(&P1, 28, 5),
+        with_byte(&P1, 28, 3),
+        with_byte(&P1, 41, 4),
+        longer,
+    ];
+    let cases = jobs.into_iter().flat_map(|job| {
+        [ROOM, none].map(|sizes| Case {
+            sizes,
+            job: job.clone(),
+        })
+    });
+    cases.collect()
+}
+
+fn with_all_the_room() -> Vec<Case> {
+    let counter = vec![[2, 0, 0, 1], [9, 0, 0, 0]];
+    let never = [[3, 0, 0, 9]];
+    let two_counters = file([TSO, 1], &[0], &[counter.clone(), counter], 0, &never);
+    let mut jobs = bench_list();
+    jobs.extend([two_counters, at_the_limit()]);
+    let cases = jobs.into_iter().map(|job| Case { sizes: ROOM, job });
+    cases.collect()
+}
+
+const RANDOM_JOBS: usize = 60;
+const SEED: u64 = 1;
+
+fn random_jobs() -> Vec<Case> {
+    let mut random = Random::new(SEED);
+    let cases = (0..RANDOM_JOBS).map(|_| {
+        let job = sound_job(&mut random);
+        let sizes = buffer_sizes(&mut random, &job);
+        Case {
+            sizes: within_the_room(sizes),
+            job,
+        }
+    });
+    cases.collect()
+}
+
+fn within_the_room(sizes: Sizes) -> Sizes {
+    Sizes {
+        table: sizes.table.min(ROOM.table),
+        links: sizes.links.min(ROOM.links),
+        schedule: sizes.schedule.min(ROOM.schedule),
+    }
+}
