@@ -1,0 +1,78 @@
+-- From the four words that a search answers back to what they mean.
+use mathlib.Core.Path.{_≡_, sym, ap, subst}
+use mathlib.Core.List.{List, [], _∷_}
+use Prim.Native.Nat.{ℕ, zero, suc}
+use native.Mathlib.Omega.{arith}
+use lib.ListN.{getD}
+use Rattle.reach.specs.Meaning.{Answer, reachable, unreachable, unknown, Outcome, MeansAt, IsReachable, IsUnreachable}
+use Rattle.rules.specs.State.{State}
+use Rattle.rules.specs.Job.{Job}
+use Rattle.rules.specs.File.{accepted, decode}
+use Rattle.rules.specs.Machine.{machine}
+use Rattle.search.specs.Meaning.{Lent, slots-lent, refusal-words, answer-words, filled, MeansWith, MeansOf, SearchMeans}
+
+abbrev pub reachable-words : (d states : ℕ) → List ℕ
+reachable-words d states = answer-words (reachable d states)
+
+abbrev pub unreachable-words : (states : ℕ) → List ℕ
+unreachable-words states = answer-words (unreachable states)
+
+-- the n-th word
+word : ℕ → List ℕ → ℕ
+word i ws = getD ws i 0
+
+module _ (j : Job) (N : ℕ) (o : Outcome State) where
+  reachable-of : (d n : ℕ) (a : Answer) → MeansAt (machine j) N a o → reachable-words d n ≡ answer-words a → IsReachable (machine j) N d n o
+  unfolding word
+  reachable-of d n (reachable d′ n′) h e =
+      subst (λ z. IsReachable (machine j) N z n o) (sym (ap (word 1) e))
+      (subst (λ z. IsReachable (machine j) N d′ z o) (sym (ap (word 2) e)) h)
+  reachable-of d n (unreachable k) h e = absurd (let f : 1 ≡ 2 = ap (word 0) e in omega arith)
+  reachable-of d n (unknown k) h e = absurd (let f : 1 ≡ 3 = ap (word 0) e in omega arith)
+
+  unreachable-of : (n : ℕ) (a : Answer) → MeansAt (machine j) N a o → unreachable-words n ≡ answer-words a → IsUnreachable (machine j) N n o
+  unfolding word
+  unreachable-of n (reachable d k) h e = absurd (let f : 2 ≡ 1 = ap (word 0) e in omega arith)
+  unreachable-of n (unreachable n′) h e = subst (λ z. IsUnreachable (machine j) N z o) (sym (ap (word 1) e)) h
+  unreachable-of n (unknown k) h e = absurd (let f : 2 ≡ 3 = ap (word 0) e in omega arith)
+
+-- what "reachable" says of an accepted job, whatever was lent
+pub record FoundIn (j : Job) (d n : ℕ) (m m′ : Lent) : Type 0 where
+  pub slots : ℕ
+  pub outcome : Outcome State
+  pub means : IsReachable (machine j) slots d n outcome
+  pub buffers : m′ ≡ filled outcome m
+
+-- what "unreachable" says
+pub record RuledOutIn (j : Job) (n : ℕ) : Type 0 where
+  pub slots : ℕ
+  pub outcome : Outcome State
+  pub means : IsUnreachable (machine j) slots n outcome
+
+module _ (bytes : List ℕ) (j : Job) (is : decode bytes ≡ accepted j) (m m′ : Lent) where
+  pub found : (d n : ℕ) → SearchMeans bytes m (reachable-words d n) m′ → FoundIn j d n m m′
+  unfolding word
+  found d n h = which (slots-lent m) (subst (λ z. MeansOf z m (reachable-words d n) m′) is h)
+    where
+      which : (N : ℕ) → MeansWith j N m (reachable-words d n) m′ → FoundIn j d n m m′
+      which zero k = absurd (let f : 1 ≡ 0 = ap (word 0) (k .answer) in omega arith)
+      which (suc N) k =
+          record {
+            slots = suc N;
+            outcome = k .outcome;
+            means = reachable-of j (suc N) (k .outcome) d n (k .outcome .answer) (k .means) (k .answer);
+            buffers = k .buffers;
+          }
+
+  pub ruled-out : (n : ℕ) → SearchMeans bytes m (unreachable-words n) m′ → RuledOutIn j n
+  unfolding word
+  ruled-out n h = which (slots-lent m) (subst (λ z. MeansOf z m (unreachable-words n) m′) is h)
+    where
+      which : (N : ℕ) → MeansWith j N m (unreachable-words n) m′ → RuledOutIn j n
+      which zero k = absurd (let f : 2 ≡ 0 = ap (word 0) (k .answer) in omega arith)
+      which (suc N) k =
+          record {
+            slots = suc N;
+            outcome = k .outcome;
+            means = unreachable-of j (suc N) (k .outcome) n (k .outcome .answer) (k .means) (k .answer);
+          }

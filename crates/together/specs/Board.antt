@@ -1,0 +1,62 @@
+-- Search SC, sign for TSO: the third demand about the answers that the searches give, whatever memory was lent to each.
+use mathlib.Core.Path.{_≡_, sym, subst}
+use mathlib.Core.Bool.{true}
+use mathlib.Core.List.{List}
+use Prim.Native.Nat.{ℕ, _≤_, _<_}
+use native.Mathlib.Omega.{arith}
+use Rattle.reach.specs.Lists.{All}
+use Rattle.reach.specs.Meaning.{NoGoal}
+use Rattle.rules.specs.Limits.{values}
+use Rattle.rules.specs.Job.{Job}
+use Rattle.rules.specs.File.{accepted, decode}
+use Rattle.rules.specs.Machine.{machine}
+use Rattle.rules.specs.Fences.{fenced, FenceMeans}
+use Rattle.rules.specs.Accepted.{accepted-in}
+use Rattle.rules.specs.Sound.{JobIn}
+use Rattle.rules.specs.declared.Model.the-variants.{Sc, Tso}
+use Rattle.signed.specs.Under.{under, under-sc}
+use Rattle.signed.specs.Signed as signed
+use Rattle.search.specs.Meaning.{Lent, SearchMeans}
+use Rattle.together.specs.Answered.{reachable-words, unreachable-words, FoundIn, RuledOutIn, found, ruled-out}
+
+abbrev pub Bytes : List ℕ → Type 0
+Bytes l = All (λ k. k < values) l
+
+-- Two accepted files of one job: the first says SC, the second TSO with some capacity, and all else is the same.
+pub record OfOneJob (sc tso : List ℕ) (j : Job) (c : ℕ) : Type 0 where
+  pub sc-bytes : Bytes sc
+  pub tso-bytes : Bytes tso
+  pub sc-is : decode sc ≡ accepted j
+  pub says-sc : j .model ≡ Sc
+  pub tso-is : decode tso ≡ accepted (under Tso c j)
+
+module _ (sc tso : List ℕ) (j : Job) (c : ℕ) (files : OfOneJob sc tso j c) (passes : FenceMeans j fenced) (flag : j .all-empty ≡ true) where
+  ok : JobIn j
+  ok = accepted-in sc (files .sc-bytes) j (files .sc-is)
+
+  room : 1 ≤ c
+  room = let k = accepted-in tso (files .tso-bytes) (under Tso c j) (files .tso-is) .capacity in omega (arith, k)
+
+  as-it-stands : under Sc 0 j ≡ j
+  as-it-stands = under-sc j ok (files .says-sc)
+
+  -- SC searched and found unreachable: no schedule of any length reaches a goal under TSO, at the capacity that the second file says
+  pub sign-for-tso : (m m′ : Lent) (n : ℕ) → SearchMeans sc m (unreachable-words n) m′ → NoGoal (machine (under Tso c j))
+  sign-for-tso m m′ n h =
+      let r = ruled-out sc j (files .sc-is) m m′ n h in
+      signed.no-goal-alike j ok passes flag c room .1 (subst (λ z. NoGoal (machine z)) (sym as-it-stands) (r .means .no-goal))
+
+  -- the two searches never contradict each other
+  pub never-contradict : (m m′ l l′ : Lent) (d n k : ℕ)
+      → SearchMeans tso m (reachable-words d n) m′ → SearchMeans sc l (unreachable-words k) l′ → ⊥
+  never-contradict m m′ l l′ d n k h u =
+      let f = found tso (under Tso c j) (files .tso-is) m m′ d n h in
+      let r = subst (λ z. RuledOutIn z k) (sym as-it-stands) (ruled-out sc j (files .sc-is) l l′ k u) in
+      signed.never-contradict j ok passes flag c room (f .slots) (r .slots) d n k (f .outcome) (r .outcome) (f .means) (r .means)
+
+  pub never-contradict-back : (m m′ l l′ : Lent) (d n k : ℕ)
+      → SearchMeans sc m (reachable-words d n) m′ → SearchMeans tso l (unreachable-words k) l′ → ⊥
+  never-contradict-back m m′ l l′ d n k h u =
+      let f = subst (λ z. FoundIn z d n m m′) (sym as-it-stands) (found sc j (files .sc-is) m m′ d n h) in
+      let r = ruled-out tso (under Tso c j) (files .tso-is) l l′ k u in
+      signed.never-contradict-back j ok passes flag c room (f .slots) (r .slots) d n k (f .outcome) (r .outcome) (f .means) (r .means)
