@@ -67,8 +67,8 @@ fn damaged_listed() -> Vec<Vec<u8>> {
         cases.push(settled(padded(&P1, count)));
     }
     cases.extend((0..=255).map(|op| with_byte(&P1, 10, op)));
-    for at in 0..P1.len() {
-        cases.extend((0..8).map(|bit| with_byte(&P1, at, P1[at] ^ (1 << bit))));
+    for (at, byte) in P1.iter().enumerate() {
+        cases.extend((0..8).map(|bit| with_byte(&P1, at, byte ^ (1 << bit))));
     }
     cases
 }

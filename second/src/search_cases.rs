@@ -106,11 +106,11 @@ fn count(job: &[u8]) -> usize {
 const MEMORIES: [Memory; 6] = [SC, [TSO, 1], [TSO, 2], [PSO, 1], [PSO, 2], [PSO, 8]];
 
 fn goal_at_the_start() -> Vec<Case> {
-    let program = vec![[5, 0, 0, 1], [3, 0, 0, 0]];
+    let programs = [vec![[5, 0, 0, 1], [3, 0, 0, 0]]];
     let mut cases = Vec::new();
     for memory in MEMORIES {
         for clauses in [vec![], vec![[1, 0, 0, 0], [2, 0, 3, 0], [3, 0, 0, 7]]] {
-            let job = file(memory, &[7], &[program.clone()], 1, &clauses);
+            let job = file(memory, &[7], &programs, 1, &clauses);
             cases.extend((0..3).map(|slots| lent(&job, slots, slots)));
         }
     }
