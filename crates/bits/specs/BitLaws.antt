@@ -2,14 +2,14 @@
 use mathlib.Core.Path.{_≡_, refl, sym, ap, _∙_}
 use mathlib.Core.Logic.{_⊎_, inl, inr, _↔_}
 use mathlib.Core.Bool.{Bool, true, false}
-use Prim.Native.Nat.{ℕ, zero, suc, _+_, _-_, _*_, _/_, _%_, _^_, _≤_, _<_}
-use native.Mathlib.Nat.{add-zero, pow-suc, div-div-eq-div-mul, mul-comm, div-one, eq-or-lt-of-le}
+use Prim.Native.Nat.{ℕ, zero, suc, _+_, _-_, _*_, _/_, _%_, _^_, _≤_, _<_, max}
+use native.Mathlib.Nat.{add-zero, zero-add, one-mul, pow-suc, div-div-eq-div-mul, mul-comm, div-one, eq-or-lt-of-le}
 use native.Mathlib.Omega.{arith}
-use native.Mathlib.Decide.{decLt}
-use lib.Bits.{bitAnd, bitOr, and-step, and-self, or-shifted-r, and-mask}
+use native.Mathlib.Decide.{decLt, ℕ-discrete}
+use lib.Bits.{bitAnd, bitOr, and-step, or-step, and-self, or-shifted-r, and-mask, or-add-and, and-le-r}
 use lib.Count.{ones, ones-step, trailingZeros, under, trailing-of-zero}
 use lib.Pow.{pow-pos, shl-exact}
-use Rattle.bits.specs.Bits.{width, bit-of, Has, digit, weight, mask-below, Builds, lowest-of, without-lowest-of, count-below, count-of, Behind, Lowest, WithoutLowest, Counted}
+use Rattle.bits.specs.Bits.{width, bit-of, Has, digit, weight, mask-below, Builds, lowest-of, without-lowest-of, count-below, count-of, Behind, Lowest, WithoutLowest, Counted, Put}
 
 -- Bits.
 
@@ -95,6 +95,45 @@ added-below false m s h = omega (arith, pow-suc 2 s)
 pub added-or : (m s : ℕ) → Behind m s → bitOr m ((1 * 2 ^ s) % 2 ^ width) ≡ m + 2 ^ s
 added-or m s b =
     rw (shl-exact {a = 1} 1 s width (omega arith) (omega (arith, b .in-width)), or-shifted-r 1 s m (b .free)) (omega arith)
+
+-- One number more, wherever it stands.
+
+pub or-bit : (a b s : ℕ) → bit-of (bitOr a b) s ≡ max (bit-of a s) (bit-of b s)
+unfolding bit-of
+or-bit a b zero = rw or-step (omega arith)
+or-bit a b (suc s) =
+    let half : bitOr a b / 2 ≡ bitOr (a / 2) (b / 2) = rw or-step (omega arith) in
+    rw half (or-bit (a / 2) (b / 2) s)
+
+power-has : (x : ℕ) → bit-of (2 ^ x) x ≡ 1
+power-has x = rw (zero-add (2 ^ x)) at (power-at 0 x (pow-pos x))
+
+power-only : (x s : ℕ) → ¬ (s ≡ x) → bit-of (2 ^ x) s ≡ 0
+power-only x s n = which (decLt s x)
+  where
+    which : Dec (s < x) → bit-of (2 ^ x) s ≡ 0
+    which (yes l) = rw (zero-add (2 ^ x), bit-of-zero s) at (power-under 0 x s l)
+    which (no l) = bit-above (2 ^ x) (suc x) s (omega (arith, pow-suc 2 x, pow-pos x)) (omega arith)
+
+put-power : (m x : ℕ) → Put m x (bitOr m (2 ^ x))
+put-power m x =
+    record {
+      there = λ l. rw (or-bit m (2 ^ x) x, power-has x) (omega (arith, bit-most m x));
+      kept = λ s h. rw (or-bit m (2 ^ x) s, h) (omega (arith, bit-most (2 ^ x) s));
+      only = λ s h. which s (ℕ-discrete s x) h;
+      no-less = omega (arith, or-add-and m (2 ^ x), and-le-r m (2 ^ x));
+    }
+  where
+    which : (s : ℕ) → Dec (s ≡ x) → Has (bitOr m (2 ^ x)) s → (s ≡ x) ⊎ Has m s
+    which s (yes e) h = inl e
+    which s (no n) h = inr (omega (arith, rw (or-bit m (2 ^ x) s, power-only x s n) at h))
+
+-- as the code puts it in
+pub put-law : (m x : ℕ) → x < width → Put m x (bitOr m ((1 * 2 ^ x) % 2 ^ width))
+put-law m x h = rw (shl-exact {a = 1} 1 x width (omega arith) (omega arith), one-mul (2 ^ x)) (put-power m x)
+
+pub put-beyond : (m x : ℕ) → width ≤ x → Put m x m
+put-beyond m x h = record { there = λ l. absurd (omega arith); kept = λ s k. k; only = λ s k. inr k; no-less = omega arith }
 
 -- A mask that is built from its tests.
 

@@ -1,5 +1,6 @@
 -- A set of numbers below 64 as one number: bit s is 1 when s is in the set.
 use mathlib.Core.Path.{_≡_}
+use mathlib.Core.Logic.{_⊎_}
 use mathlib.Core.Bool.{Bool, true, false}
 use Prim.Native.Nat.{ℕ, zero, suc, _+_, _-_, _/_, _%_, _^_, _≤_, _<_}
 use lib.Count.{trailingZeros}
@@ -74,3 +75,10 @@ pub record Counted (m r : ℕ) : Type 0 where
   pub empty : m ≡ 0 → r ≡ 0
   pub only-empty : r ≡ 0 → m ≡ 0
   pub one-less : 0 < m → count-of (without-lowest-of m) + 1 ≡ r
+
+-- the set with x in it too; a word has no number from its width up
+pub record Put (m x r : ℕ) : Type 0 where
+  pub there : x < width → Has r x
+  pub kept : (s : ℕ) → Has m s → Has r s
+  pub only : (s : ℕ) → Has r s → (s ≡ x) ⊎ Has m s
+  pub no-less : m ≤ r

@@ -2,7 +2,7 @@
 ghost use mathlib.Core.Path.{_≡_};
 ghost use Prim.Native.Nat.{_+_};
 ghost use lib.Dec.{eqb};
-ghost use Rattle.bits.specs.Bits.{bit-of, weight, Behind, Lowest, WithoutLowest, Counted};
+ghost use Rattle.bits.specs.Bits.{bit-of, weight, Behind, Lowest, WithoutLowest, Counted, Put};
 
 // The set with s, if on: so a loop from the lowest number up builds a set from its tests.
 pub fn with_bit(m: u64, s: u8, on: bool) -> u64
@@ -17,6 +17,13 @@ pub fn has(m: u64, s: u8) -> bool
     ensures { λ r. ⌜ r ≡ eqb (bit-of m s) 1 ⌝ }
 {
     if s < 64 { (m >> s) & 1 == 1 } else { false }
+}
+
+// The set with x in it too; from 64 up there is no place for x, and nothing changes.
+pub fn put(m: u64, x: u8) -> u64
+    ensures { λ r. ⌜ Put m x r ⌝ }
+{
+    if x < 64 { m | (1 << x) } else { m }
 }
 
 // The lowest number of the set, 64 where it is empty.

@@ -137,7 +137,7 @@ targets-has code (suc n) p q h m = which (decLt p n) (λ k. targets-has code n p
         let e : p ≡ n = omega arith in
         in-right q (targets-below code n) (successors code n) (subst (λ i. Move code i q) e m)
 
-move-inside : (code : List Instr) (p q : ℕ) → Move code p q → p < length code
+pub move-inside : (code : List Instr) (p q : ℕ) → Move code p q → p < length code
 unfolding successors onward-at
 move-inside code p q h = which (getElem? code p) refl h
   where
@@ -326,7 +326,7 @@ given-some : {A : Type 0} (b : Bool) (a c : A) → given b a ≡ some c → T b 
 given-some true a c e = (tt, cc)
 given-some false a c e = absurd (none-is-not-some e)
 
-load-inside : (code : List Instr) (l : ℕ) → T (is-load (getElem? code l)) → l < length code
+pub load-inside : (code : List Instr) (l : ℕ) → T (is-load (getElem? code l)) → l < length code
 unfolding is-load
 load-inside code l h = which (getElem? code l) refl h
   where
@@ -334,7 +334,7 @@ load-inside code l h = which (getElem? code l) refl h
     which none e m = absurd m
     which (some i) e m = at-below code l i e
 
-store-inside : (code : List Instr) (s : ℕ) → T (is-store (getElem? code s)) → s < length code
+pub store-inside : (code : List Instr) (s : ℕ) → T (is-store (getElem? code s)) → s < length code
 unfolding is-store
 store-inside code s h = which (getElem? code s) refl h
   where
@@ -368,15 +368,15 @@ module _ (j : Job) where
   no-threads : (t : ℕ) → in-thread t ≡ none → (s l : ℕ) → ¬ (Open j t s l)
   no-threads t e s l o = no-stores t (o .code) (o .thread-is) (sym (ap (λ z. andThen z (open-stores t)) (o .thread-is)) ∙ e) s l o
 
-  least-open :
-      (t s l : ℕ) (code : List Instr) → getElem? (j .threads) t ≡ some code → ((n : ℕ) → n < t → in-thread n ≡ none) →
-      ((n : ℕ) → n < s → open-loads code t n ≡ none) → ((n : ℕ) → n < l → given (open-test code s n) (open-at t s n) ≡ none) →
+  -- a pair is the least if no thread before has one, no store before in its thread, and no load before of its store
+  pub least-open :
+      (t s l : ℕ) → ((n : ℕ) → n < t → (s′ l′ : ℕ) → ¬ (Open j n s′ l′)) → ((n : ℕ) → n < s → (l′ : ℕ) → ¬ (Open j t n l′)) →
+      ((n : ℕ) → n < l → ¬ (Open j t s n)) →
       (t′ s′ l′ : ℕ) → Open j t′ s′ l′ → ¬ (Earlier (t′ ∷ s′ ∷ l′ ∷ []) (t ∷ s ∷ l ∷ []))
-  least-open t s l code is f g h t′ s′ l′ o (inl k) = no-threads t′ (f t′ k) s′ l′ o
-  least-open t s l code is f g h t′ s′ l′ o (inr (p, inl k)) = no-loads t code is s′ (g s′ k) l′ (subst (λ z. Open j z s′ l′) p o)
-  least-open t s l code is f g h t′ s′ l′ o (inr (p, inr (q, inl k))) =
-      no-load t code is s l′ (h l′ k) (subst (λ z. Open j t z l′) q (subst (λ z. Open j z s′ l′) p o))
-  least-open t s l code is f g h t′ s′ l′ o (inr (p, inr (q, inr k))) = absurd (k .1)
+  least-open t s l f g h t′ s′ l′ o (inl k) = f t′ k s′ l′ o
+  least-open t s l f g h t′ s′ l′ o (inr (p, inl k)) = g s′ k l′ (subst (λ z. Open j z s′ l′) p o)
+  least-open t s l f g h t′ s′ l′ o (inr (p, inr (q, inl k))) = h l′ k (subst (λ z. Open j t z l′) q (subst (λ z. Open j z s′ l′) p o))
+  least-open t s l f g h t′ s′ l′ o (inr (p, inr (q, inr k))) = absurd (k .1)
 
   pub fence-check-means : FenceMeans j (fence-check j)
   unfolding fence-check open-threads fence-answer open-stores open-loads
@@ -394,5 +394,8 @@ module _ (j : Job) where
           let p = first-some (open-loads (c .0) (r .0)) (length (c .0)) a (c .2) in
           let q = first-some (λ l. given (open-test (c .0) (p .0) l) (open-at (r .0) (p .0) l)) (length (c .0)) a (p .2) in
           let g = given-some (open-test (c .0) (p .0) (q .0)) (open-at (r .0) (p .0) (q .0)) a (q .2) in
-          subst (FenceMeans j) (g .1)
-          (test-open j (r .0) (c .0) (c .1) (p .0) (q .0) (g .0), least-open (r .0) (p .0) (q .0) (c .0) (c .1) (r .3) (p .3) (q .3))
+          subst (FenceMeans j) (g .1) (
+            test-open j (r .0) (c .0) (c .1) (p .0) (q .0) (g .0),
+            least-open (r .0) (p .0) (q .0) (λ n k. no-threads n (r .3 n k)) (λ n k. no-loads (r .0) (c .0) (c .1) n (p .3 n k))
+                (λ n k. no-load (r .0) (c .0) (c .1) (p .0) n (q .3 n k)),
+          )

@@ -1,4 +1,4 @@
--- From the four words that a search answers back to what they mean.
+-- From the four words that a search or a fence check answers back to what they mean.
 use mathlib.Core.Path.{_≡_, sym, ap, subst}
 use mathlib.Core.List.{List, [], _∷_}
 use Prim.Native.Nat.{ℕ, zero, suc}
@@ -9,6 +9,8 @@ use Rattle.rules.specs.State.{State}
 use Rattle.rules.specs.Job.{Job}
 use Rattle.rules.specs.File.{accepted, decode}
 use Rattle.rules.specs.Machine.{machine}
+use Rattle.rules.specs.Fences.{Fenced, fenced, open-at, FenceMeans}
+use Rattle.fences.specs.Meaning as fences
 use Rattle.search.specs.Meaning.{Lent, slots-lent, refusal-words, answer-words, filled, MeansWith, MeansOf, SearchMeans}
 
 abbrev pub reachable-words : (d states : ℕ) → List ℕ
@@ -76,3 +78,15 @@ module _ (bytes : List ℕ) (j : Job) (is : decode bytes ≡ accepted j) (m m′
             outcome = k .outcome;
             means = unreachable-of j (suc N) (k .outcome) n (k .outcome .answer) (k .means) (k .answer);
           }
+
+abbrev pub fenced-words : List ℕ
+fenced-words = fences.checked-words fenced
+
+-- what "FENCED" says of an accepted job
+pub passed : (bytes : List ℕ) (j : Job) → decode bytes ≡ accepted j → fences.FencesMean bytes fenced-words → FenceMeans j fenced
+unfolding word
+passed bytes j is h = let k = subst (λ z. fences.MeansOf z fenced-words) is h in which (k .checked) (k .means) (k .answer)
+  where
+    which : (a : Fenced) → FenceMeans j a → fenced-words ≡ fences.checked-words a → FenceMeans j fenced
+    which fenced m e = m
+    which (open-at t s l) m e = absurd (let f : 1 ≡ 2 = ap (word 0) e in omega arith)

@@ -1,23 +1,25 @@
 -- Search SC, sign for TSO: the third demand about the answers that the searches give, whatever memory was lent to each.
-use mathlib.Core.Path.{_≡_, sym, subst}
+use mathlib.Core.Path.{_≡_, refl, sym, _∙_, ap, subst}
 use mathlib.Core.Bool.{true}
 use mathlib.Core.List.{List}
 use Prim.Native.Nat.{ℕ, _≤_, _<_}
 use native.Mathlib.Omega.{arith}
+use lib.ListN.{getElem?}
 use Rattle.reach.specs.Lists.{All}
 use Rattle.reach.specs.Meaning.{NoGoal}
 use Rattle.rules.specs.Limits.{values}
 use Rattle.rules.specs.Job.{Job}
 use Rattle.rules.specs.File.{accepted, decode}
 use Rattle.rules.specs.Machine.{machine}
-use Rattle.rules.specs.Fences.{fenced, FenceMeans}
+use Rattle.rules.specs.Fences.{Open, Fenced, fenced, open-at, FenceMeans}
+use Rattle.fences.specs.Meaning.{MeansFor, MeansOf, FencesMean, fences-accepted}
 use Rattle.rules.specs.Accepted.{accepted-in}
 use Rattle.rules.specs.Sound.{JobIn}
 use Rattle.rules.specs.declared.Model.the-variants.{Sc, Tso}
 use Rattle.signed.specs.Under.{under, under-sc}
 use Rattle.signed.specs.Signed as signed
 use Rattle.search.specs.Meaning.{Lent, SearchMeans}
-use Rattle.together.specs.Answered.{reachable-words, unreachable-words, FoundIn, RuledOutIn, found, ruled-out}
+use Rattle.together.specs.Answered.{reachable-words, unreachable-words, FoundIn, RuledOutIn, fenced-words, found, ruled-out, passed}
 
 abbrev pub Bytes : List ℕ → Type 0
 Bytes l = All (λ k. k < values) l
@@ -30,7 +32,32 @@ pub record OfOneJob (sc tso : List ℕ) (j : Job) (c : ℕ) : Type 0 where
   pub says-sc : j .model ≡ Sc
   pub tso-is : decode tso ≡ accepted (under Tso c j)
 
-module _ (sc tso : List ℕ) (j : Job) (c : ℕ) (files : OfOneJob sc tso j c) (passes : FenceMeans j fenced) (flag : j .all-empty ≡ true) where
+-- "Once the job is accepted, its model makes no difference here": the check answers both files alike.
+open-alike : (i j : Job) → i .threads ≡ j .threads → (t s l : ℕ) → Open i t s l → Open j t s l
+open-alike i j e t s l o =
+    record {
+      code = o .code;
+      thread-is = ap (λ x. getElem? x t) (sym e) ∙ o .thread-is;
+      store = o .store;
+      load = o .load;
+      between = o .between;
+      walk = o .walk;
+    }
+
+means-alike : (i j : Job) → i .threads ≡ j .threads → (a : Fenced) → FenceMeans i a → FenceMeans j a
+means-alike i j e fenced h = λ t s l o. h t s l (open-alike j i (sym e) t s l o)
+means-alike i j e (open-at t s l) h = (open-alike i j e t s l (h .0), λ t′ s′ l′ o. h .1 t′ s′ l′ (open-alike j i (sym e) t′ s′ l′ o))
+
+pub checked-alike : (sc tso : List ℕ) (j : Job) (c : ℕ) → OfOneJob sc tso j c → (ws : List ℕ) → FencesMean sc ws → FencesMean tso ws
+checked-alike sc tso j c files ws h =
+    let k : MeansFor j ws = subst (λ z. MeansOf z ws) (files .sc-is) h in
+    fences-accepted tso ws (under Tso c j) (files .tso-is)
+    (record { checked = k .checked; means = means-alike j (under Tso c j) refl (k .checked) (k .means); answer = k .answer })
+
+module _ (sc tso : List ℕ) (j : Job) (c : ℕ) (files : OfOneJob sc tso j c) (check : FencesMean sc fenced-words) (flag : j .all-empty ≡ true) where
+  passes : FenceMeans j fenced
+  passes = passed sc j (files .sc-is) check
+
   ok : JobIn j
   ok = accepted-in sc (files .sc-bytes) j (files .sc-is)
 

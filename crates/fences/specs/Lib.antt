@@ -1,0 +1,3 @@
+-- What a fence check promises: read `Meaning` first.
+pub mod Meaning
+pub mod Places
