@@ -7,6 +7,7 @@ pub mod fences;
 pub mod hex;
 pub mod job;
 pub mod job_cases;
+pub mod job_folder;
 pub mod listed;
 pub mod machine;
 pub mod random;
