@@ -79,12 +79,12 @@ pub model-low : (m : Model) → model-of 0 ≡ some m → m ≡ Sc
 unfolding model-of
 model-low m e = cc
 
-pub model-high : (k : ℕ) (m : Model) → 2 ≤ k → model-of k ≡ some m → m ≡ Pso
+pub model-none : (k : ℕ) → 3 ≤ k → model-of k ≡ none
 unfolding model-of
-model-high zero m h e = absurd (omega arith)
-model-high (suc zero) m h e = absurd (omega arith)
-model-high (suc (suc zero)) m h e = cc
-model-high (suc (suc (suc k))) m h e = absurd (let z : _≡_ {A = ℕ} 0 1 = cc in omega arith)
+model-none zero h = absurd (omega arith)
+model-none (suc zero) h = absurd (omega arith)
+model-none (suc (suc zero)) h = absurd (omega arith)
+model-none (suc (suc (suc k))) h = refl
 
 pub capacity-high : (k : ℕ) (m : Model) → ¬ (k ≡ 0) → model-of k ≡ some m → capacity-of m ≡ in-range 1 most-pending
 unfolding model-of capacity-of

@@ -66,3 +66,7 @@ behind-head bytes g = head-first bytes 2 ∙ then-of-got (head bytes) (rest byte
 
 pub head-fault : (bytes : List ℕ) (number offset : ℕ) → head bytes 2 ≡ fault number offset → fields bytes 2 ≡ fault number offset
 head-fault bytes number offset e = head-first bytes 2 ∙ then-of-fault (head bytes) (rest bytes) 2 number offset e
+
+-- a byte is one model alone
+pub same-model : (bytes : List ℕ) (m k : Model) → model-of (getD bytes 3 0) ≡ some m → model-of (getD bytes 3 0) ≡ some k → m ≡ k
+same-model bytes m k p q = cc

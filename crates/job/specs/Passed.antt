@@ -8,12 +8,19 @@ use lib.ListN.{getD}
 use Rattle.rules.specs.File.{Read, got, fault, instruction-of, clause-of}
 use Rattle.rules.specs.declared.Instr.{Instr}
 use Rattle.rules.specs.declared.Clause.{Clause}
+use Rattle.rules.specs.declared.Model.{Model}
+use Rattle.job.specs.declared.ModelRead.{ModelRead}
+use Rattle.job.specs.declared.ModelRead.the-variants as ModelReads
 use Rattle.job.specs.declared.InstrRead.{InstrRead}
 use Rattle.job.specs.declared.InstrRead.the-variants as InstrReads
 use Rattle.job.specs.declared.ClauseRead.{ClauseRead}
 use Rattle.job.specs.declared.ClauseRead.the-variants as ClauseReads
 use Rattle.job.specs.declared.Next.{Next}
 use Rattle.job.specs.declared.Next.the-variants.{At, Fault}
+
+abbrev pub model-read : ModelRead → Option Model
+model-read (ModelReads.Good m) = some m
+model-read ModelReads.Bad = none
 
 abbrev pub instr-of : InstrRead → Option Instr
 instr-of (InstrReads.Good i) = some i

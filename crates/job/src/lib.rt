@@ -9,6 +9,8 @@ mod read; // read.rt: the readers of the file
 pub mod table; // table.rt: what four bytes are, as an instruction and as a clause
 
 ghost use mathlib.Core.Path.{_≡_};
+ghost use mathlib.Core.Option.{some};
+ghost use lib.ListN.{getD};
 ghost use Rattle.rules.specs.File as file;
 ghost use Rattle.job.specs.Laid.{Means};
 ghost use Rattle.job.specs.Accepts.{placed-at, Answers, HeadPassed, Says};
@@ -50,6 +52,12 @@ pub struct Layout {
 pub enum Decoded {
     Accepted(Layout),
     Refused(u8, usize),
+}
+
+// What a byte is as a model, if it is one.
+pub enum ModelRead {
+    Good(Model),
+    Bad,
 }
 
 // What four bytes are: an instruction, a clause, or neither.
@@ -109,18 +117,29 @@ fn with_goal(job: &[u8], l: Layout) -> Decoded
     }
 }
 
-// What stands behind a head that was good.
-fn behind_head(job: &[u8]) -> Decoded
-    requires { ⌜ HeadPassed (now job) ⌝ }
+// What stands behind a head that was good and names this model.
+fn behind_model(job: &[u8], model: Model) -> Decoded
+    requires { ⌜ HeadPassed (now job) × (file.model-of (getD (now job) 3 0) ≡ some model) ⌝ }
     ensures { λ r. ⌜ Says (now (job .entry)) (file.fields (now (job .entry)) 2) r ⌝ }
 {
     let vars = job[6];
     if job.len() - FIRST_VALUE < read::wide(vars) {
         return Decoded::Refused(6, job.len());
     }
-    match placed(job, read::model(job[3]), job[4], job[5], vars) {
+    match placed(job, model, job[4], job[5], vars) {
         Decoded::Accepted(l) => with_goal(job, l),
         Decoded::Refused(number, offset) => Decoded::Refused(number, offset),
+    }
+}
+
+// What stands behind a head that was good.
+fn behind_head(job: &[u8]) -> Decoded
+    requires { ⌜ HeadPassed (now job) ⌝ }
+    ensures { λ r. ⌜ Says (now (job .entry)) (file.fields (now (job .entry)) 2) r ⌝ }
+{
+    match read::model(job[3]) {
+        ModelRead::Good(model) => behind_model(job, model),
+        ModelRead::Bad => Decoded::Refused(3, 3),
     }
 }
 

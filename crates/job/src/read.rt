@@ -5,6 +5,7 @@ use crate::LONGEST_THREAD;
 use crate::MOST_PENDING;
 use crate::MOST_THREADS;
 use crate::MOST_VARIABLES;
+use crate::ModelRead;
 use crate::Next;
 use crate::VERSION;
 use crate::table;
@@ -17,7 +18,7 @@ ghost use lib.Dec.{leb};
 ghost use lib.ListN.{length, getD};
 ghost use Rattle.rules.specs.File as file;
 ghost use Rattle.rules.specs.declared.Model as Declared;
-ghost use Rattle.job.specs.Passed.{passed, then, instr-of, instruction-in-bytes, begin-of};
+ghost use Rattle.job.specs.Passed.{passed, then, model-read, instr-of, instruction-in-bytes, begin-of};
 ghost use Rattle.job.specs.Stages.{head, threads-before};
 
 pub fn wide(x: u8) -> usize
@@ -99,14 +100,15 @@ pub fn head_fields(job: &[u8]) -> Next
     first(version, first(model, first(pending, first(threads, vars))))
 }
 
-// The model of a number that the head's field has let pass: 2 is the last.
-pub fn model(k: u8) -> Model
-    ensures { λ r. ⌜ ((m : Declared.Model) → file.model-of k ≡ some m → r ≡ m) ⌝ }
+// What a byte is as a model.
+pub fn model(k: u8) -> ModelRead
+    ensures { λ r. ⌜ model-read r ≡ file.model-of k ⌝ }
 {
     match k {
-        0 => Model::Sc,
-        1 => Model::Tso,
-        2..=255 => Model::Pso,
+        0 => ModelRead::Good(Model::Sc),
+        1 => ModelRead::Good(Model::Tso),
+        2 => ModelRead::Good(Model::Pso),
+        3..=255 => ModelRead::Bad,
     }
 }
 

@@ -1,5 +1,5 @@
 -- Search SC, sign for TSO: the third demand about the answers that the searches give, whatever memory was lent to each.
-use mathlib.Core.Path.{_≡_, refl, sym, _∙_, ap, subst}
+use mathlib.Core.Path.{_≡_, sym, _∙_, ap, subst}
 use mathlib.Core.Bool.{true}
 use mathlib.Core.List.{List}
 use Prim.Native.Nat.{ℕ, _≤_, _<_}
@@ -32,7 +32,7 @@ pub record OfOneJob (sc tso : List ℕ) (j : Job) (c : ℕ) : Type 0 where
   pub says-sc : j .model ≡ Sc
   pub tso-is : decode tso ≡ accepted (under Tso c j)
 
--- "Once the job is accepted, its model makes no difference here": the check answers both files alike.
+-- "Once the job is accepted, its model makes no difference here": files of the same threads are answered alike.
 open-alike : (i j : Job) → i .threads ≡ j .threads → (t s l : ℕ) → Open i t s l → Open j t s l
 open-alike i j e t s l o =
     record {
@@ -48,11 +48,12 @@ means-alike : (i j : Job) → i .threads ≡ j .threads → (a : Fenced) → Fen
 means-alike i j e fenced h = λ t s l o. h t s l (open-alike j i (sym e) t s l o)
 means-alike i j e (open-at t s l) h = (open-alike i j e t s l (h .0), λ t′ s′ l′ o. h .1 t′ s′ l′ (open-alike j i (sym e) t′ s′ l′ o))
 
-pub checked-alike : (sc tso : List ℕ) (j : Job) (c : ℕ) → OfOneJob sc tso j c → (ws : List ℕ) → FencesMean sc ws → FencesMean tso ws
-checked-alike sc tso j c files ws h =
-    let k : MeansFor j ws = subst (λ z. MeansOf z ws) (files .sc-is) h in
-    fences-accepted tso ws (under Tso c j) (files .tso-is)
-    (record { checked = k .checked; means = means-alike j (under Tso c j) refl (k .checked) (k .means); answer = k .answer })
+pub checked-alike :
+    (one other : List ℕ) (i j : Job) → decode one ≡ accepted i → decode other ≡ accepted j → i .threads ≡ j .threads →
+    (ws : List ℕ) → FencesMean one ws → FencesMean other ws
+checked-alike one other i j p q e ws h =
+    let k : MeansFor i ws = subst (λ z. MeansOf z ws) p h in
+    fences-accepted other ws j q (record { checked = k .checked; means = means-alike i j e (k .checked) (k .means); answer = k .answer })
 
 module _ (sc tso : List ℕ) (j : Job) (c : ℕ) (files : OfOneJob sc tso j c) (check : FencesMean sc fenced-words) (flag : j .all-empty ≡ true) where
   passes : FenceMeans j fenced

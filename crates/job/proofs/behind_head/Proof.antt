@@ -1,42 +1,11 @@
--- `job::behind_head` meets its contract: the initial values are there or not; then the threads and the goal decide.
-use mathlib.Core.Path.{_≡_, ap, sym, _∙_}
-use Prim.Native.Nat.{_+_, _≤_}
-use native.Mathlib.Omega.{arith}
+-- `job::behind_head` meets its contract: a head that was good names a model, and what stands behind it decides.
+use mathlib.Core.Path.{sym, ap, _∙_}
+use mathlib.Core.Option.{Option·none-ne-some}
 use borrow.Author.Needs.{needs}
-use lib.ListN.{length, getD}
-use Rattle.job.specs.Accepts.{placed-at}
-use Rattle.job.proofs.Decoding.{says-missing, says-refused, says-answer}
-use Rattle.job.proofs.HeadLaws.{HeadGot, head-got}
+use Rattle.job.specs.Passed.{model-read}
+use Rattle.job.proofs.HeadLaws.{head-got}
 use Rattle.job.proofs.behind_head.Statement.{statement}
 use Rattle.job.proofs.behind_head.Tie as tie
-
-head-of : (c : tie.Start) → HeadGot (c .args .job .now)
-head-of c = head-got _ (c .pre .next) (c .pre .head-is)
-
-values-inside : (c : tie.Else1) → 7 + getD (c .before .before .before .before .args .job .now) 6 0 ≤ length (c .before .before .before .before .args .job .now)
-values-inside c = let h = head-of (c .before .before .before .before) .there in omega (arith, c .before .wide .ensures)
-
--- the threads were placed under the head's own numbers
-placed-is : (c : tie.After-placed) →
-    let bytes = c .before .before .before .before .before .before .before .before .before .args .job .now in
-    c .placed .result ≡ placed-at bytes (head-of (c .before .before .before .before .before .before .before .before .before) .model) (getD bytes 4 0) (getD bytes 5 0) (getD bytes 6 0)
-placed-is c =
-    let bytes = c .before .before .before .before .before .before .before .before .before .args .job .now in
-    let g = head-of (c .before .before .before .before .before .before .before .before .before) in
-    c .placed .ensures
-    ∙ ap (λ m. placed-at bytes m (getD bytes 4 0) (getD bytes 5 0) (getD bytes 6 0)) (c .before .before .before .model .ensures (g .model) (g .model-is))
-
-shared-slice-read-vars : tie.Need-shared-slice-read-vars
-shared-slice-read-vars c = search needs
-
-sub-if1 : tie.Need-sub-if1
-sub-if1 c = search needs
-
-wide-requires : tie.Need-wide-requires
-wide-requires c κs = search needs
-
-returns : tie.Need-returns
-returns c = says-missing _ (head-of (c .before .before .before .before)) (omega (arith, c .before .wide .ensures))
 
 shared-slice-read-model : tie.Need-shared-slice-read-model
 shared-slice-read-model c = search needs
@@ -44,49 +13,38 @@ shared-slice-read-model c = search needs
 model-requires : tie.Need-model-requires
 model-requires c κs = search needs
 
-shared-slice-read-placed : tie.Need-shared-slice-read-placed
-shared-slice-read-placed c = search needs
+enum-known-model : tie.Need-enum-known-model
+enum-known-model c = search needs
 
-shared-slice-read-placed-2 : tie.Need-shared-slice-read-placed-2
-shared-slice-read-placed-2 c = search needs
+behind-model-requires : tie.Need-behind-model-requires
+behind-model-requires c κs = (
+  c .before .before .before .before .before .before .pre,
+  sym (c .before .before .before .model .ensures) ∙ ap model-read (c .before .model2 .given .1),
+)
 
-placed-requires : tie.Need-placed-requires
-placed-requires c κs = search needs
+enum-told : tie.Need-enum-told
+enum-told c = search needs
 
-enum-known-l : tie.Need-enum-known-l
-enum-known-l c = search needs
+returns : tie.Need-returns
+returns c = c .behind-model .ensures
 
-with-goal-requires : tie.Need-with-goal-requires
-with-goal-requires c κs = search needs
-
-enum-known-number : tie.Need-enum-known-number
-enum-known-number c = search needs
-
+-- no good head has a byte there that is no model
 returns-2 : tie.Need-returns-2
 returns-2 c =
-    let d = c .before .before .before .before in
-    says-answer _ (head-of (d .before .before .before .before .before .before .before .before .before)) (values-inside (d .before .before .before .before .before)) _ (sym (placed-is d) ∙ c .before .before .l .given .1) _ (c .with-goal .ensures)
-
-returns-3 : tie.Need-returns-3
-returns-3 c =
-    let d = c .before .before .before in
-    says-refused _ (head-of (d .before .before .before .before .before .before .before .before .before)) (values-inside (d .before .before .before .before .before)) _ _ (sym (placed-is d) ∙ c .before .number .given .1)
+    let start = c .before .before .before .before .before in
+    let g = head-got _ (start .pre .next) (start .pre .head-is) in
+    absurd
+    (Option·none-ne-some (g .model)
+    (sym (ap model-read (c .enum-told .given .1)) ∙ c .before .before .model .ensures ∙ g .model-is))
 
 pub behind-head-spec : {M : Type 1} → statement M
 behind-head-spec =
     tie.close
     (tie.spec
-    shared-slice-read-vars
-    sub-if1
-    wide-requires
-    returns
     shared-slice-read-model
     model-requires
-    shared-slice-read-placed
-    shared-slice-read-placed-2
-    placed-requires
-    enum-known-l
-    with-goal-requires
-    enum-known-number
-    returns-2
-    returns-3)
+    enum-known-model
+    behind-model-requires
+    enum-told
+    returns
+    returns-2)

@@ -1,20 +1,25 @@
 -- `job::read::model` meets its contract: each number is its model; of a number above 2 there is none.
-use mathlib.Core.Path.{sym}
+use mathlib.Core.Path.{sym, ap}
 use native.Mathlib.Omega.{arith}
 use Rattle.rules.specs.File.{model-of}
-use Rattle.job.proofs.Fields.{model-low, model-high}
+use Rattle.job.proofs.Fields.{model-none}
 use Rattle.job.proofs.read.model.Statement.{statement}
 use Rattle.job.proofs.read.model.Tie as tie
 
 returns : tie.Need-returns
-returns c m e = sym (model-low m (rw (c .match .keys1) at e))
+unfolding model-of
+returns c = ap model-of (sym (c .match .keys1))
 
 returns-2 : tie.Need-returns-2
 unfolding model-of
-returns-2 c m e = let d = rw (c .match .keys2) at e in cc
+returns-2 c = ap model-of (sym (c .match .keys2))
 
 returns-3 : tie.Need-returns-3
-returns-3 c m e = sym (model-high (c .before .args .k) m (omega (arith, c .match .rest)) e)
+unfolding model-of
+returns-3 c = ap model-of (sym (c .match .keys3))
+
+returns-4 : tie.Need-returns-4
+returns-4 c = sym (model-none (c .before .args .k) (omega (arith, c .match .rest)))
 
 pub model-spec : {M : Type 1} → statement M
-model-spec = tie.close (tie.spec returns returns-2 returns-3)
+model-spec = tie.close (tie.spec returns returns-2 returns-3 returns-4)
