@@ -1,4 +1,5 @@
--- What the promises of the public jobs say together: read `Found` for search and replay, `Board` for two searches.
+-- What the promises of the public jobs say together: read `Found` for search and replay, `Board` for two searches and the check, `Listed` for 01's list.
 pub mod Answered
 pub mod Found
 pub mod Board
+pub mod Listed
