@@ -1,0 +1,68 @@
+-- `bench::read_input` is safe and ends: the count stays within the room. The measure is what is left of the room. Assumes nothing.
+use mathlib.Core.Path.{_≡_}
+use Prim.Native.Nat.{_≤_, _-_}
+use borrow.Author.Needs.{needs}
+use lib.ListN.{length}
+use Rattle.bench.proofs.read_input.Statement.{statement}
+use Rattle.bench.proofs.read_input.Tie as tie
+
+abbrev Inv-loop : tie.InvT-loop
+Inv-loop room₀ count₀ failed₀ room count failed = (count ≤ length room₀) × (length room ≡ length room₀)
+
+abbrev μ-loop : tie.MeasureT-loop
+μ-loop room₀ count₀ failed₀ room count failed = length room₀ - count
+
+loop-holds : tie.Need-loop-holds Inv-loop μ-loop
+loop-holds c = search needs
+
+sub-read-some : tie.Need-sub-read-some Inv-loop μ-loop
+sub-read-some c = search needs
+
+part-read-some-start : tie.Need-part-read-some-start Inv-loop μ-loop
+part-read-some-start c = search needs
+
+part-read-some-end : tie.Need-part-read-some-end Inv-loop μ-loop
+part-read-some-end c = search needs
+
+read-some-requires : tie.Need-read-some-requires Inv-loop μ-loop
+read-some-requires c κs = search needs
+
+add-count : tie.Need-add-count Inv-loop μ-loop
+add-count c = search needs
+
+loop-less : tie.Need-loop-less Inv-loop μ-loop
+loop-less c = search needs
+
+loop-again : tie.Need-loop-again Inv-loop μ-loop
+loop-again c = search needs
+
+same-length : tie.Need-same-length Inv-loop μ-loop
+same-length c = search needs
+
+returns : tie.Need-returns Inv-loop μ-loop
+returns c = search needs
+
+same-length-2 : tie.Need-same-length-2 Inv-loop μ-loop
+same-length-2 c = search needs
+
+returns-2 : tie.Need-returns-2 Inv-loop μ-loop
+returns-2 c = search needs
+
+pub read-input-spec : {M : Type 1} → statement M
+read-input-spec =
+    tie.close
+    (tie.spec
+    Inv-loop
+    μ-loop
+    loop-holds
+    sub-read-some
+    part-read-some-start
+    part-read-some-end
+    read-some-requires
+    add-count
+    loop-less
+    loop-again
+    same-length
+    returns
+    same-length-2
+    returns-2)

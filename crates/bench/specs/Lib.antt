@@ -1,0 +1,2 @@
+-- How a step is printed.
+pub mod Hex

@@ -1,0 +1,33 @@
+-- Which of RELEASE and HOLD is said, for every input: 01, "Bench program".
+use mathlib.Core.Path.{_≡_}
+use mathlib.Core.Bool.{true}
+use mathlib.Core.Logic.{_↔_}
+use mathlib.Core.List.{List}
+use Prim.Native.Nat.{ℕ}
+use Rattle.reach.specs.Meaning.{unreachable}
+use Rattle.rules.specs.Job.{Job}
+use Rattle.rules.specs.File.{accepted, decode}
+use Rattle.rules.specs.Fences.{fenced}
+use Rattle.rules.specs.declared.Model.the-variants.{Sc}
+use Rattle.search.specs.Meaning as search
+use Rattle.fences.specs.Meaning as fences
+use Rattle.verdict.specs.declared.Verdict.{Verdict}
+
+-- "under SC only if the flag is 1 and the program FENCED"
+abbrev pub ScAsks : Job → List ℕ → Type 0
+ScAsks j checked = j .model ≡ Sc → (j .all-empty ≡ true) × (checked ≡ fences.checked-words fenced)
+
+-- "RELEASE for unreachable only, and under SC only if the flag is 1 and the program FENCED; else HOLD." Of the bytes of a job, and the
+-- words that the search and the fence check answered.
+pub record MayRelease (bytes found checked : List ℕ) : Type 0 where
+  pub job : Job
+  pub decoded : decode bytes ≡ accepted job
+  pub states : ℕ
+  pub unreachable-only : found ≡ search.answer-words (unreachable states)
+  pub under-sc : ScAsks job checked
+
+-- the whole promise: job, buffers before, verdict, buffers after
+pub record VerdictMeans (bytes : List ℕ) (m : search.Lent) (v : Verdict) (m′ : search.Lent) : Type 0 where
+  pub searched : search.SearchMeans bytes m (search.words (v .search)) m′
+  pub checked : fences.FencesMean bytes (fences.words (v .fences))
+  pub releases : (v .release ≡ true) ↔ MayRelease bytes (search.words (v .search)) (fences.words (v .fences))

@@ -1,0 +1,298 @@
+/* Calls the library through its C header on the bench list of 01. */
+#include "handshake.h"
+
+#include <stdio.h>
+#include <stdlib.h>
+#include <string.h>
+
+enum { SLOT = 96, ROOM = 640 };
+
+static int checks = 0;
+
+#define CHECK(holds)                                                                     \
+    do {                                                                                 \
+        checks++;                                                                        \
+        if (!(holds)) {                                                                  \
+            fprintf(stderr, "%s:%d: does not hold: %s\n", __FILE__, __LINE__, #holds);   \
+            exit(1);                                                                     \
+        }                                                                                \
+    } while (0)
+
+/* P1 of 01 as it stands there, and the places in it that the other cases change. */
+static const uint8_t P1[] = {0x00, 0x2B, 0x01, 0x01, 0x01, 0x02, 0x02, 0x00, 0x00, 0x02, 0x05, 0x00, 0x00, 0x01, 0x03,
+                             0x00, 0x01, 0x00, 0x02, 0x05, 0x00, 0x01, 0x01, 0x03, 0x00, 0x00, 0x00, 0x00, 0x04, 0x01,
+                             0x00, 0x00, 0x02, 0x01, 0x01, 0x00, 0x02, 0x02, 0x00, 0x00, 0x00, 0x02, 0x01, 0x00, 0x00};
+enum { MODEL = 3, CAPACITY = 4, FLAG = 27 };
+
+/* P10: TSO, C 1, one thread with x = 1 and x = 2; any goal. */
+static const uint8_t P10[] = {0x00, 0x11, 0x01, 0x01, 0x01, 0x01, 0x01, 0x00, 0x02, 0x05,
+                              0x00, 0x00, 0x01, 0x05, 0x00, 0x00, 0x02, 0x00, 0x00};
+
+/* P9: P1 with FENCE between store and load, goal places 3. */
+static const uint8_t P9[] = {0x00, 0x33, 0x01, 0x01, 0x01, 0x02, 0x02, 0x00, 0x00, 0x03, 0x05, 0x00, 0x00, 0x01, 0x06, 0x00, 0x00, 0x00,
+                             0x03, 0x00, 0x01, 0x00, 0x03, 0x05, 0x00, 0x01, 0x01, 0x06, 0x00, 0x00, 0x00, 0x03, 0x00, 0x00, 0x00, 0x00,
+                             0x04, 0x01, 0x00, 0x00, 0x03, 0x01, 0x01, 0x00, 0x03, 0x02, 0x00, 0x00, 0x00, 0x02, 0x01, 0x00, 0x00};
+
+static int answer_is(const uint64_t answer[4], uint64_t a, uint64_t b, uint64_t c, uint64_t d) {
+    return answer[0] == a && answer[1] == b && answer[2] == c && answer[3] == d;
+}
+
+/* How many elements stand before and behind each lent buffer: some, to see that they keep their contents; then none, so that a step over
+ * an end leaves the memory that was allocated. */
+static size_t guard;
+
+/* The sizes count what is lent; the memory has the guards too. */
+typedef struct {
+    size_t table_size, links_size, schedule_size;
+    uint8_t *table, *schedule;
+    uint32_t *links;
+} Lent;
+
+static uint8_t byte_at(size_t i) { return (uint8_t)(3 + 7 * i); }
+static uint32_t link_at(size_t i) { return (uint32_t)(1000003 + i); }
+
+static void *room(size_t size) {
+    void *p = malloc(size == 0 ? 1 : size);
+    if (p == NULL) exit(2);
+    return p;
+}
+
+/* All is filled by place, so that no two elements near each other are the same. */
+static Lent lend(size_t table_size, size_t links_size, size_t schedule_size) {
+    Lent m = {table_size, links_size, schedule_size, room(table_size + 2 * guard), room(schedule_size + 2 * guard),
+              room((links_size + 2 * guard) * sizeof(uint32_t))};
+    for (size_t i = 0; i < table_size + 2 * guard; i++) m.table[i] = byte_at(i);
+    for (size_t i = 0; i < schedule_size + 2 * guard; i++) m.schedule[i] = byte_at(i);
+    for (size_t i = 0; i < links_size + 2 * guard; i++) m.links[i] = link_at(i);
+    return m;
+}
+
+/* Whether nothing changed but the first so many of each: 0 of each where all is to be as it was. */
+static int rest_kept(const Lent *m, size_t table, size_t links, size_t schedule) {
+    for (size_t i = 0; i < m->table_size + 2 * guard; i++)
+        if ((i < guard || i >= guard + table) && m->table[i] != byte_at(i)) return 0;
+    for (size_t i = 0; i < m->schedule_size + 2 * guard; i++)
+        if ((i < guard || i >= guard + schedule) && m->schedule[i] != byte_at(i)) return 0;
+    for (size_t i = 0; i < m->links_size + 2 * guard; i++)
+        if ((i < guard || i >= guard + links) && m->links[i] != link_at(i)) return 0;
+    return 1;
+}
+
+static void give_back(Lent m) {
+    free(m.table);
+    free(m.links);
+    free(m.schedule);
+}
+
+/* The job stands alone in memory of its size, and the answer between two words that no call may touch. */
+static void search(const uint8_t *job, size_t size, const Lent *m, uint64_t answer[4]) {
+    uint8_t *copy = room(size);
+    if (size > 0) memcpy(copy, job, size);
+    uint64_t words[6] = {11, 12, 13, 14, 15, 16};
+    handshake_search(copy, size, m->table + guard, m->table_size, m->links + guard, m->links_size, m->schedule + guard, m->schedule_size,
+                     words + 1);
+    CHECK(words[0] == 11 && words[5] == 16);
+    CHECK(size == 0 || memcmp(copy, job, size) == 0);
+    memcpy(answer, words + 1, 4 * sizeof(uint64_t));
+    free(copy);
+}
+
+static void replay(const uint8_t *job, size_t size, const uint8_t *schedule, size_t steps, uint64_t answer[4]) {
+    uint8_t *copy = room(size), *walk = room(steps);
+    if (size > 0) memcpy(copy, job, size);
+    if (steps > 0) memcpy(walk, schedule, steps);
+    uint64_t words[6] = {11, 12, 13, 14, 15, 16};
+    handshake_replay(copy, size, walk, steps, words + 1);
+    CHECK(words[0] == 11 && words[5] == 16);
+    CHECK(size == 0 || memcmp(copy, job, size) == 0);
+    CHECK(steps == 0 || memcmp(walk, schedule, steps) == 0);
+    memcpy(answer, words + 1, 4 * sizeof(uint64_t));
+    free(copy);
+    free(walk);
+}
+
+static void fences(const uint8_t *job, size_t size, uint64_t answer[4]) {
+    uint8_t *copy = room(size);
+    if (size > 0) memcpy(copy, job, size);
+    uint64_t words[6] = {11, 12, 13, 14, 15, 16};
+    handshake_fences(copy, size, words + 1);
+    CHECK(words[0] == 11 && words[5] == 16);
+    CHECK(size == 0 || memcmp(copy, job, size) == 0);
+    memcpy(answer, words + 1, 4 * sizeof(uint64_t));
+    free(copy);
+}
+
+static void p1_whole(void) {
+    static const uint8_t steps[] = {0x00, 0x00, 0x01, 0x01};
+    /* Slot 0 is the start, all zero; in slot 1 thread 0 has x = 1 pending, in slot 2 thread 1 has y = 1 pending. */
+    uint8_t first[3 * SLOT] = {0};
+    first[SLOT + 0] = 1, first[SLOT + 28] = 1, first[SLOT + 29] = 0, first[SLOT + 30] = 1;
+    first[2 * SLOT + 1] = 1, first[2 * SLOT + 45] = 1, first[2 * SLOT + 46] = 1, first[2 * SLOT + 47] = 1;
+    uint64_t answer[4];
+    Lent m = lend(ROOM * SLOT, ROOM, ROOM);
+    search(P1, sizeof P1, &m, answer);
+    CHECK(answer_is(answer, 1, 4, 22, 0));
+    CHECK(memcmp(m.schedule + guard, steps, sizeof steps) == 0);
+    CHECK(memcmp(m.table + guard, first, 3 * SLOT) == 0);
+    CHECK(m.links[guard] == 4294967295u);
+    CHECK(m.links[guard + 1] == 64 * 0 + 0);
+    CHECK(m.links[guard + 2] == 64 * 0 + 1);
+    /* From slot 1: thread 0 loads, thread 1 stores, x is flushed. */
+    CHECK(m.links[guard + 3] == 64 * 1 + 0);
+    CHECK(m.links[guard + 4] == 64 * 1 + 1);
+    CHECK(m.links[guard + 5] == 64 * 1 + 4);
+    /* A link leads back to an earlier slot, by a step that there is. */
+    for (size_t i = 1; i < 22; i++) CHECK(m.links[guard + i] / 64 < i && m.links[guard + i] % 64 < 36);
+    CHECK(rest_kept(&m, 22 * SLOT, 22, 4));
+    give_back(m);
+}
+
+static void p1_by_slots(void) {
+    uint64_t answer[4];
+    Lent m = lend(22 * SLOT, 22, 22);
+    search(P1, sizeof P1, &m, answer);
+    CHECK(answer_is(answer, 1, 4, 22, 0));
+    CHECK(rest_kept(&m, 22 * SLOT, 22, 4));
+    give_back(m);
+    /* 21 slots by each of the three, and by 95 bytes too many for 21 and too few for 22. */
+    size_t sizes[4][3] = {{21 * SLOT, 22, 22}, {22 * SLOT, 21, 22}, {22 * SLOT, 22, 21}, {21 * SLOT + 95, 640, 640}};
+    for (size_t k = 0; k < 4; k++) {
+        m = lend(sizes[k][0], sizes[k][1], sizes[k][2]);
+        search(P1, sizeof P1, &m, answer);
+        CHECK(answer_is(answer, 3, 21, 0, 0));
+        CHECK(rest_kept(&m, 21 * SLOT, 21, 0));
+        give_back(m);
+    }
+}
+
+static void p2_and_p3(void) {
+    static const uint8_t steps[] = {0x00, 0x00, 0x01, 0x01, 0x04, 0x0D};
+    uint8_t job[sizeof P1];
+    uint64_t answer[4];
+    memcpy(job, P1, sizeof P1);
+    job[MODEL] = 0, job[CAPACITY] = 0;
+    Lent m = lend(ROOM * SLOT, ROOM, ROOM);
+    search(job, sizeof job, &m, answer);
+    CHECK(answer_is(answer, 2, 13, 0, 0));
+    CHECK(rest_kept(&m, 13 * SLOT, 13, 0));
+    give_back(m);
+    memcpy(job, P1, sizeof P1);
+    job[FLAG] = 1;
+    m = lend(ROOM * SLOT, ROOM, ROOM);
+    search(job, sizeof job, &m, answer);
+    CHECK(answer_is(answer, 1, 6, 34, 0));
+    CHECK(memcmp(m.schedule + guard, steps, sizeof steps) == 0);
+    CHECK(rest_kept(&m, 34 * SLOT, 34, 6));
+    give_back(m);
+}
+
+static void replays(void) {
+    static const uint8_t found[] = {0x00, 0x00, 0x01, 0x01}, twice[] = {0x00, 0x00}, never[] = {0x24}, above[] = {0xFF};
+    uint64_t answer[4];
+    replay(P1, sizeof P1, found, sizeof found, answer);
+    CHECK(answer_is(answer, 1, 0, 0, 0));
+    replay(P1, sizeof P1, found, 3, answer);
+    CHECK(answer_is(answer, 2, 0, 0, 0));
+    replay(P10, sizeof P10, twice, sizeof twice, answer);
+    CHECK(answer_is(answer, 3, 1, 0, 0));
+    replay(P1, sizeof P1, never, sizeof never, answer);
+    CHECK(answer_is(answer, 3, 0, 0, 0));
+    replay(P1, sizeof P1, above, sizeof above, answer);
+    CHECK(answer_is(answer, 3, 0, 0, 0));
+}
+
+static void fence_checks(void) {
+    uint8_t job[sizeof P1];
+    uint64_t answer[4];
+    fences(P1, sizeof P1, answer);
+    CHECK(answer_is(answer, 2, 0, 0, 1));
+    memcpy(job, P1, sizeof P1);
+    job[MODEL] = 0, job[CAPACITY] = 0;
+    fences(job, sizeof job, answer);
+    CHECK(answer_is(answer, 2, 0, 0, 1));
+    fences(P9, sizeof P9, answer);
+    CHECK(answer_is(answer, 1, 0, 0, 0));
+    Lent m = lend(ROOM * SLOT, ROOM, ROOM);
+    search(P9, sizeof P9, &m, answer);
+    CHECK(answer[0] == 2 && answer[2] == 0 && answer[3] == 0);
+    give_back(m);
+}
+
+/* A refusal by each of the three, and nothing lent is touched. */
+static void refused(const uint8_t *job, size_t size, uint64_t number, uint64_t offset) {
+    static const uint8_t step[] = {0x00};
+    uint64_t answer[4];
+    Lent m = lend(ROOM * SLOT, ROOM, ROOM);
+    search(job, size, &m, answer);
+    CHECK(answer_is(answer, 0, number, offset, 0));
+    CHECK(rest_kept(&m, 0, 0, 0));
+    give_back(m);
+    replay(job, size, step, sizeof step, answer);
+    CHECK(answer_is(answer, 0, number, offset, 0));
+    fences(job, size, answer);
+    CHECK(answer_is(answer, 0, number, offset, 0));
+}
+
+static void refusals(void) {
+    static const uint8_t version[] = {0x00, 0x01, 0x02}, cut[] = {0x00, 0x01, 0x01};
+    static const uint8_t longest[597] = {0x02, 0x53, 0x02}, too_long[598] = {0x02, 0x54, 0x01};
+    uint8_t job[sizeof P1];
+    refused(P1, 0, 1, 0);
+    refused(P1, 2, 1, 0);
+    refused(P1, sizeof P1 - 1, 1, 0);
+    refused(version, sizeof version, 2, 2);
+    refused(cut, sizeof cut, 6, 3);
+    refused(longest, sizeof longest, 2, 2);
+    refused(too_long, sizeof too_long, 1, 0);
+    memcpy(job, P1, sizeof P1);
+    job[MODEL] = 3;
+    refused(job, sizeof job, 3, 3);
+    memcpy(job, P1, sizeof P1);
+    job[10] = 0x0A;
+    refused(job, sizeof job, 4, 10);
+    memcpy(job, P1, sizeof P1);
+    job[FLAG] = 2;
+    refused(job, sizeof job, 5, FLAG);
+}
+
+/* Nothing lent: refusal 7 for whichever buffer is empty, and 1 to 6 before it. NULL stands for an empty buffer. */
+static void empty_buffers(void) {
+    static const uint8_t version[] = {0x00, 0x01, 0x02};
+    uint64_t answer[4];
+    size_t sizes[4][3] = {{0, ROOM, ROOM}, {95, ROOM, ROOM}, {ROOM * SLOT, 0, ROOM}, {ROOM * SLOT, ROOM, 0}};
+    for (size_t k = 0; k < 4; k++) {
+        Lent m = lend(sizes[k][0], sizes[k][1], sizes[k][2]);
+        search(P1, sizeof P1, &m, answer);
+        CHECK(answer_is(answer, 0, 7, 0, 0));
+        search(version, sizeof version, &m, answer);
+        CHECK(answer_is(answer, 0, 2, 2, 0));
+        CHECK(rest_kept(&m, 0, 0, 0));
+        give_back(m);
+    }
+    handshake_search(P1, sizeof P1, NULL, 0, NULL, 0, NULL, 0, answer);
+    CHECK(answer_is(answer, 0, 7, 0, 0));
+    handshake_search(NULL, 0, NULL, 0, NULL, 0, NULL, 0, answer);
+    CHECK(answer_is(answer, 0, 1, 0, 0));
+    handshake_replay(NULL, 0, NULL, 0, answer);
+    CHECK(answer_is(answer, 0, 1, 0, 0));
+    handshake_replay(P1, sizeof P1, NULL, 0, answer);
+    CHECK(answer_is(answer, 2, 0, 0, 0));
+    handshake_fences(NULL, 0, answer);
+    CHECK(answer_is(answer, 0, 1, 0, 0));
+}
+
+int main(void) {
+    const size_t guards[] = {64, 0};
+    for (size_t k = 0; k < 2; k++) {
+        guard = guards[k];
+        p1_whole();
+        p1_by_slots();
+        p2_and_p3();
+        replays();
+        fence_checks();
+        refusals();
+        empty_buffers();
+    }
+    printf("%d checks hold\n", checks);
+    return 0;
+}
