@@ -107,6 +107,7 @@ module _ (bytes : List ℕ) (g : HeadGot bytes) where
             initial-inside = omega (arith, i .0);
             initial = λ k m. i .1 k (omega (arith, i .0));
             code = rw (i .0) (t .code);
+            begins = rw (i .0) (t .begins);
             flag = h .flag-is;
             clauses-number = h .number;
             ends = h .ends;

@@ -1,14 +1,15 @@
 -- Where the parts of a job stand that was read: its initial values, its threads and its goal.
 use mathlib.Core.Path.{_≡_, refl, sym, ap, subst, _∙_}
 use mathlib.Core.Bool.{Bool, true, false, cond}
-use mathlib.Core.List.{List}
+use mathlib.Core.List.{List, [], _∷_}
 use mathlib.Core.Option.{some}
 use Prim.Native.Nat.{ℕ, zero, suc, _+_, _-_, _*_, _≤_, _<_, min}
 use native.Mathlib.Omega.{arith}
-use borrow.Author.Tests.{lt-ltb, eqb-true, leb-true, leb-false}
+use native.Mathlib.Decide.{decLt}
+use borrow.Author.Tests.{lt-ltb, le-ltb, eqb-true, leb-true, leb-false}
 use lib.Dec.{eqb, leb}
 use lib.ListN.{length, getD, getElem?}
-use Rattle.reach.specs.ListLaws.{at-below}
+use Rattle.reach.specs.ListLaws.{at-below, below-at}
 use Rattle.rules.specs.Limits.{most-threads, longest-thread, most-clauses}
 use Rattle.rules.specs.File.{got, fault, times, judged, byte, field, in-range, flag-of, instruction, thread, clause, ended}
 use Rattle.rules.specs.declared.Model.{Model}
@@ -16,12 +17,12 @@ use Rattle.rules.specs.declared.Instr.{Instr}
 use Rattle.rules.specs.declared.Clause.{Clause}
 use Rattle.job.specs.declared.Next.{Next}
 use Rattle.job.specs.declared.Next.the-variants.{At, Fault}
-use Rattle.job.specs.Laid.{code-at, ThreadLaid}
-use Rattle.job.specs.Passed.{passed, chain, clause-in-bytes}
+use Rattle.job.specs.Laid.{code-at, begins-at, ThreadLaid}
+use Rattle.job.specs.Passed.{passed, chain, begin-of, clause-in-bytes}
 use Rattle.job.specs.Stages.{counted, goal, threads-before}
 use Rattle.job.specs.Threads.{ThreadsLaid}
 use Rattle.job.specs.Accepts.{begins, layout}
-use Rattle.job.proofs.Readers.{items-laid, item-there, then-got, times-none, times-next, times-length, times-item}
+use Rattle.job.proofs.Readers.{items-laid, item-there, then-got, times-none, times-next, times-split, times-length, times-item}
 use Rattle.job.proofs.Fields.{range-got, field-missing, field-then}
 use Rattle.job.proofs.ThreadLaws.{at-default}
 
@@ -87,6 +88,38 @@ module _ (bytes : List ℕ) where
         },
       )
 
+  thread-next : (vars at : ℕ) (code : List Instr) (next : ℕ) → thread bytes vars at ≡ got code next → next ≡ at + 1 + 4 * length code
+  unfolding thread instruction
+  thread-next vars at code next e =
+      let f = field-then bytes 4 (in-range 0 longest-thread) _ at code next e in
+      let h = items-laid bytes 4 4 _ (f .held) (at + 1) code next (f .rest) in
+      omega (arith, h .behind, h .number)
+
+  -- a thread begins where the threads before it end
+  times-begins : (vars k at : ℕ) (threads : List (List Instr)) (next : ℕ) → times k (thread bytes vars) at ≡ got threads next →
+      (t p : ℕ) → t < k → passed (times t (thread bytes vars) at) ≡ At p → begins-at at threads t ≡ p + 1
+  unfolding begins-at
+  times-begins vars zero at threads next e t p l h = absurd (omega arith)
+  times-begins vars (suc k) at threads next e zero p l h =
+      let s = times-split (thread bytes vars) k at threads next e in
+      let d : At at ≡ At p = sym (ap passed (times-none (thread bytes vars) at)) ∙ h in
+      let q : at ≡ p = cc in
+      ap (λ z. begins-at at z 0) (sym (s .whole)) ∙ ap (λ z. z + 1) q
+  times-begins vars (suc k) at threads next e (suc t) p l h =
+      let s = times-split (thread bytes vars) k at threads next e in
+      let d : passed (times t (thread bytes vars) (s .behind)) ≡ At p =
+      sym (times-next (thread bytes vars) t at ∙ rw (s .first)) ∙ h in
+      let q = thread-next vars at (s .head) (s .behind) (s .first) in
+      ap (λ z. begins-at at z (suc t)) (sym (s .whole))
+      ∙ ap (λ z. begins-at z (s .tail) t) (sym q)
+      ∙ times-begins vars k (s .behind) (s .tail) next (s .others) t p (omega arith) d
+
+  begins-none : (at : ℕ) (threads : List (List Instr)) (t : ℕ) → length threads ≤ t → begins-at at threads t ≡ 0
+  unfolding begins-at
+  begins-none at [] t h = refl
+  begins-none at (code ∷ rest) zero h = absurd (omega arith)
+  begins-none at (code ∷ rest) (suc t) h = begins-none (at + 1 + 4 * length code) rest t (omega arith)
+
   module _ (model : Model) (capacity count vars next : ℕ) (most : count ≤ most-threads) where
     code-begins : (t : ℕ) → t < most-threads → code-at (layout bytes model capacity count vars next) t ≡ begins bytes count vars t
     unfolding code-at
@@ -96,23 +129,61 @@ module _ (bytes : List ℕ) where
     code-begins (suc (suc (suc zero))) h = refl
     code-begins (suc (suc (suc (suc t)))) h = absurd (omega arith)
 
-    pub threads-laid : (threads : List (List Instr)) → times count (thread bytes vars) (7 + vars) ≡ got threads next →
-        ThreadsLaid bytes vars (layout bytes model capacity count vars next) threads
-    unfolding threads-before
-    threads-laid threads e =
-        let n = times-length (thread bytes vars) count (7 + vars) threads next e in
-        record {
-          number = sym n;
-          code = λ t code h.
-              let k = at-below threads t code h in
-              let i = times-item (thread bytes vars) count (7 + vars) threads next e t code h in
-              let g = thread-got vars (i .0) code (i .1) (i .3) in
-              let m : min t count ≡ t = omega (arith, n) in
-              subst (λ start. ThreadLaid bytes vars start code)
-              (sym (code-begins t (omega (arith, n))
-              ∙ rw (m, i .2, lt-ltb t count (omega (arith, n)), lt-ltb (i .0) (length bytes) (g .0))))
-              (g .1);
-        }
+    -- of a thread that the job doesn't have
+    begins-absent : (t : ℕ) → count ≤ t → code-at (layout bytes model capacity count vars next) t ≡ 0
+    unfolding code-at
+    begins-absent t h = which (decLt t most-threads)
+      where
+        absent : (x : Next) → begin-of (length bytes) count t x ≡ 0
+        absent (At p) = rw (le-ltb t count h)
+        absent (Fault number offset) = refl
+
+        past : (t : ℕ) → most-threads ≤ t → code-at (layout bytes model capacity count vars next) t ≡ 0
+        past zero h = absurd (omega arith)
+        past (suc zero) h = absurd (omega arith)
+        past (suc (suc zero)) h = absurd (omega arith)
+        past (suc (suc (suc zero))) h = absurd (omega arith)
+        past (suc (suc (suc (suc t)))) h = refl
+
+        which : Dec (t < most-threads) → code-at (layout bytes model capacity count vars next) t ≡ 0
+        which (yes l) = code-begins t l ∙ absent (threads-before bytes vars count (7 + vars) t)
+        which (no l) = past t (omega arith)
+
+    module _ (threads : List (List Instr)) (e : times count (thread bytes vars) (7 + vars) ≡ got threads next) where
+      number : length threads ≡ count
+      number = times-length (thread bytes vars) count (7 + vars) threads next e
+
+      -- thread t's n stands at p
+      there : (t : ℕ) (code : List Instr) → getElem? threads t ≡ some code →
+          (p : ℕ) × (passed (times t (thread bytes vars) (7 + vars)) ≡ At p)
+          × (code-at (layout bytes model capacity count vars next) t ≡ p + 1) × ThreadLaid bytes vars (p + 1) code
+      unfolding threads-before
+      there t code h =
+          let k = at-below threads t code h in
+          let i = times-item (thread bytes vars) count (7 + vars) threads next e t code h in
+          let g = thread-got vars (i .0) code (i .1) (i .3) in
+          let m : min t count ≡ t = omega (arith, number) in (
+            i .0,
+            i .2,
+            code-begins t (omega (arith, number))
+                ∙ rw (m, i .2, lt-ltb t count (omega (arith, number)), lt-ltb (i .0) (length bytes) (g .0)),
+            g .1,
+          )
+
+      pub threads-laid : ThreadsLaid bytes vars (layout bytes model capacity count vars next) threads
+      threads-laid =
+          record {
+            number = sym number;
+            code = λ t code h. (let x = there t code h in subst (λ start. ThreadLaid bytes vars start code) (sym (x .2)) (x .3));
+            begins = λ t. begins t (decLt t count);
+          }
+        where
+          begins : (t : ℕ) → Dec (t < count) → code-at (layout bytes model capacity count vars next) t ≡ begins-at (7 + vars) threads t
+          begins t (yes l) =
+              let c = below-at threads t (omega (arith, number)) in
+              let x = there t (c .0) (c .1) in
+              x .2 ∙ sym (times-begins vars count (7 + vars) threads next e t (x .0) l (x .1))
+          begins t (no l) = begins-absent t (omega arith) ∙ sym (begins-none (7 + vars) threads t (omega (arith, number)))
 
   -- The goal.
 

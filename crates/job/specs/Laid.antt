@@ -2,7 +2,7 @@
 use mathlib.Core.Path.{_≡_}
 use mathlib.Core.List.{List, [], _∷_}
 use mathlib.Core.Option.{Option, some}
-use Prim.Native.Nat.{ℕ, _+_, _-_, _*_, _≤_, _<_}
+use Prim.Native.Nat.{ℕ, zero, suc, _+_, _-_, _*_, _≤_, _<_}
 use lib.ListN.{length, getD, getElem?}
 use Rattle.rules.specs.Job.{Job}
 use Rattle.rules.specs.File as file
@@ -15,6 +15,12 @@ use Rattle.job.specs.declared.Decoded.the-variants.{Accepted, Refused}
 -- where thread t's instructions begin
 unfoldable pub code-at : Layout → ℕ → ℕ
 code-at l t = getD (l .code0 ∷ l .code1 ∷ l .code2 ∷ l .code3 ∷ []) t 0
+
+-- where thread t's instructions begin, if the first thread's n stands at `at`; 0 for a thread that is not there
+unfoldable pub begins-at : ℕ → List (List Instr) → ℕ → ℕ
+begins-at at [] t = 0
+begins-at at (code ∷ rest) zero = at + 1
+begins-at at (code ∷ rest) (suc t) = begins-at (at + 1 + 4 * length code) rest t
 
 -- a thread's n stands just before its instructions, which are all there
 pub record ThreadLaid (bytes : List ℕ) (vars start : ℕ) (code : List Instr) : Type 0 where
@@ -34,6 +40,7 @@ pub record Laid (bytes : List ℕ) (l : Layout) (j : Job) : Type 0 where
   pub initial-inside : 7 + length (j .initial) ≤ length bytes
   pub initial : (i : ℕ) → i < length (j .initial) → getD bytes (7 + i) 0 ≡ getD (j .initial) i 0
   pub code : (t : ℕ) (code : List Instr) → getElem? (j .threads) t ≡ some code → ThreadLaid bytes (length (j .initial)) (code-at l t) code
+  pub begins : (t : ℕ) → code-at l t ≡ begins-at (7 + length (j .initial)) (j .threads) t
   pub flag : file.flag-of (getD bytes (l .goal) 0) ≡ some (j .all-empty)
   pub clauses-number : getD bytes (l .goal + 1) 0 ≡ length (j .clauses)
   pub ends : l .goal + 2 + 4 * length (j .clauses) ≡ length bytes

@@ -1,0 +1,271 @@
+//! Jobs to compare on: the listed ones first, then random ones of many shapes, sound and damaged.
+
+use crate::walk::walk;
+use second::listed::{at_the_limit, bench_list, file, settled, with_byte, Memory, Program, P1, SC};
+use second::machine::State;
+use second::random::{damaged_job, random_bytes, sound_job, Random};
+use second::{decode, Job};
+
+/// The job of a run that has more states than a search ever counts.
+pub const COUNTER: u64 = 0;
+
+/// Job `number` of a run: every run begins with the listed jobs.
+pub fn job(random: &mut Random, number: u64) -> Vec<u8> {
+    let mut listed = listed();
+    if number < listed.len() as u64 {
+        return listed.swap_remove(number as usize);
+    }
+    match random.below(100) {
+        0..=7 => random_bytes(random),
+        8..=27 => damaged_job(random),
+        28..=31 => {
+            let job = listed.swap_remove(random.below(listed.len()));
+            damaged(random, job)
+        }
+        32..=36 => {
+            let job = handshake(random);
+            damaged(random, job)
+        }
+        37..=60 => sound_job(random),
+        61..=72 => {
+            let job = sound_job(random);
+            with_far_goal(random, job)
+        }
+        73..=84 => handshake(random),
+        85..=97 => {
+            let job = handshake(random);
+            with_far_goal(random, job)
+        }
+        _ => full_size(random),
+    }
+}
+
+/// The counter, the bench list and its refused inputs, and a job at every limit.
+fn listed() -> Vec<Vec<u8>> {
+    let mut jobs = vec![counter()];
+    jobs.extend(bench_list());
+    let longest = at_the_limit();
+    let too_long = settled([&longest[..], &[0]].concat());
+    jobs.extend([vec![], vec![0, 1, 2], vec![0, 1, 1], with_byte(&P1, 10, 10)]);
+    jobs.extend([longest, too_long]);
+    jobs
+}
+
+/// Counts to 65,536 in two registers, one state after another.
+fn counter() -> Vec<u8> {
+    let program = vec![
+        [2, 0, 0, 1],
+        [8, 0, 3, 0],
+        [9, 0, 0, 0],
+        [2, 1, 0, 1],
+        [9, 0, 0, 0],
+    ];
+    file(SC, &[0], &[program], 0, &[[3, 0, 0, 1]])
+}
+
+// ---- handshakes: programs that announce, look, wait and go round ----
+
+/// Stands for the program's end until its length is known.
+const END: u8 = 255;
+
+/// A few threads that wait for each other in loops, with a goal that a walk has been near.
+pub fn handshake(random: &mut Random) -> Vec<u8> {
+    let variables = random.between(1, 4);
+    let threads = random.pick(&[1, 2, 2, 2, 3, 4]);
+    let longest = random.pick(&[4, 6, 8]);
+    let programs: Vec<Program> = (0..threads)
+        .map(|_| handshake_program(random, variables, longest))
+        .collect();
+    let initial: Vec<u8> = (0..variables).map(|_| random.below(2) as u8).collect();
+    let memory = some_memory(random);
+    let job = file(memory, &initial, &programs, random.below(2) as u8, &[]);
+    with_near_goal(random, job)
+}
+
+fn some_memory(random: &mut Random) -> Memory {
+    match random.below(3) as u8 {
+        0 => SC,
+        model => [model, random.pick(&[1, 1, 2, 2, 3, 4, 5, 6, 7, 8])],
+    }
+}
+
+fn handshake_program(random: &mut Random, variables: usize, longest: usize) -> Program {
+    let mut program = Program::new();
+    // A thread without instructions has ended at once.
+    while program.len() < longest && random.percent(85) {
+        let at = program.len() as u8;
+        program.extend(phrase(random, at, variables));
+    }
+    program.truncate(longest);
+    if program.len() < longest && random.percent(40) {
+        let back = random.below(program.len() + 1) as u8;
+        program.push([9, 0, back, 0]);
+    }
+    with_ends(program)
+}
+
+/// Puts the program's own length where its end is meant.
+fn with_ends(mut program: Program) -> Program {
+    let end = program.len() as u8;
+    for instruction in &mut program {
+        if matches!(instruction[0], 8 | 9) && instruction[2] == END {
+            instruction[2] = end;
+        }
+    }
+    program
+}
+
+/// Instructions that belong together; `at` is the place of the first of them.
+fn phrase(random: &mut Random, at: u8, variables: usize) -> Program {
+    let register = random.below(4) as u8;
+    let variable = random.below(variables) as u8;
+    let other = random.below(variables) as u8;
+    let value = random.below(3) as u8;
+    let announce = [5, 0, variable, value];
+    let look = [3, register, other, 0];
+    match random.below(10) {
+        0 => vec![announce, look],
+        1 => vec![announce, [6, 0, 0, 0], look],
+        // Waits in a loop while the variable has this value.
+        2 | 3 => vec![look, [8, register, at, value]],
+        // Takes a lock by an exchange, again and again.
+        4 => vec![
+            [1, register, 0, 1],
+            [7, register, variable, 0],
+            [8, register, at, 1],
+        ],
+        // Counts, and leaves or goes round.
+        5 => vec![
+            [2, register, 0, value],
+            [8, register, END, value],
+            [9, 0, at, 0],
+        ],
+        // Stays at one place for ever, if the register is so.
+        6 => vec![[8, register, at, value]],
+        7 => vec![random.pick(&[[9, 0, at, 0], [9, 0, END, 0], [8, register, END, value]])],
+        8 => vec![[2, register, 0, 1], [4, register, variable, 0]],
+        _ => vec![[4, register, variable, 0], [5, 0, other, 0]],
+    }
+}
+
+/// Four threads of 32 instructions, which is all that a file holds.
+fn full_size(random: &mut Random) -> Vec<u8> {
+    let programs: Vec<Program> = (0..4).map(|_| full_program(random)).collect();
+    let initial: Vec<u8> = (0..8).map(|_| random.byte()).collect();
+    let job = file(some_memory(random), &initial, &programs, 0, &[]);
+    with_far_goal(random, job)
+}
+
+fn full_program(random: &mut Random) -> Program {
+    let mut program = Program::new();
+    while program.len() < 32 {
+        let at = program.len() as u8;
+        program.extend(phrase(random, at, 8));
+    }
+    program.truncate(32);
+    with_ends(program)
+}
+
+// ---- goals ----
+
+/// One or two facts about a state that a walk has been at.
+fn with_near_goal(random: &mut Random, job: Vec<u8>) -> Vec<u8> {
+    let count = random.between(1, 3);
+    with_goal_after(random, job, 20, |random, state| {
+        let mut facts = facts(state);
+        (0..count)
+            .map(|_| facts.swap_remove(random.below(facts.len())))
+            .collect()
+    })
+}
+
+/// All places and some more of the state at a long walk's end, so that few states are goals.
+fn with_far_goal(random: &mut Random, job: Vec<u8>) -> Vec<u8> {
+    let more = random.between(0, 12);
+    with_goal_after(random, job, 40, |random, state| {
+        let mut facts = facts(state);
+        let mut clauses: Vec<[u8; 4]> = facts.drain(..state.threads.len()).collect();
+        while clauses.len() < 16.min(state.threads.len() + more) && !facts.is_empty() {
+            clauses.push(facts.swap_remove(random.below(facts.len())));
+        }
+        clauses
+    })
+}
+
+fn with_goal_after(
+    random: &mut Random,
+    job: Vec<u8>,
+    most_steps: usize,
+    clauses: impl Fn(&mut Random, &State) -> Vec<[u8; 4]>,
+) -> Vec<u8> {
+    let Ok(decoded) = decode(&job) else {
+        return job;
+    };
+    let steps = random.between(2, most_steps);
+    let (_, state) = walk(random, &decoded, steps);
+    let empty = state.threads.iter().all(|thread| thread.pending() == 0);
+    let flag = u8::from(empty && random.percent(60));
+    let mut clauses = clauses(random, &state);
+    if random.percent(20) {
+        // A value that is seldom there: most such goals are never reached.
+        let value = random.pick(&[3, 4, 128, 255]);
+        if let Some(clause) = clauses.iter_mut().find(|clause| clause[0] != 1) {
+            clause[3] = value;
+        }
+    }
+    let front = &job[..goal_offset(&decoded)];
+    settled([front, &[flag, clauses.len() as u8], &clauses.concat()].concat())
+}
+
+/// All clauses that are true of the state, the places of all threads first.
+fn facts(state: &State) -> Vec<[u8; 4]> {
+    let threads = || (0u8..).zip(&state.threads);
+    let places = threads().map(|(thread, own)| [1, thread, 0, own.place as u8]);
+    let registers = threads().flat_map(|(thread, own)| {
+        (0u8..)
+            .zip(own.registers)
+            .map(move |(register, value)| [2, thread, register, value])
+    });
+    let memory = (0u8..).zip(&state.memory);
+    let memory = memory.map(|(variable, &value)| [3, variable, 0, value]);
+    places.chain(registers).chain(memory).collect()
+}
+
+/// Where the goal's flag stands in an accepted file.
+fn goal_offset(job: &Job) -> usize {
+    let programs: usize = job
+        .programs
+        .iter()
+        .map(|program| 1 + 4 * program.len())
+        .sum();
+    7 + job.initial.len() + programs
+}
+
+// ---- damage ----
+
+/// The numbers at and beside the ends of every range of the file.
+const EDGES: [u8; 19] = [
+    0, 1, 2, 3, 4, 5, 7, 8, 9, 10, 15, 16, 17, 31, 32, 33, 127, 254, 255,
+];
+
+/// The job with a fault anywhere; the length field is mostly made right again.
+fn damaged(random: &mut Random, mut job: Vec<u8>) -> Vec<u8> {
+    match random.below(5) {
+        0 if !job.is_empty() => {
+            let at = random.below(job.len());
+            job[at] ^= 1 << random.below(8);
+        }
+        1 => job.truncate(random.between(0, job.len())),
+        2 => job.extend(vec![random.pick(&EDGES); random.pick(&[1, 2, 4, 5])]),
+        _ if !job.is_empty() => {
+            let at = random.below(job.len());
+            job[at] = random.pick(&EDGES);
+        }
+        _ => job.push(random.byte()),
+    }
+    if random.percent(80) {
+        settled(job)
+    } else {
+        job
+    }
+}

@@ -1,0 +1,14 @@
+//! Holds the proved library to the second checker: the same calls over the same memory, compared whole.
+
+pub mod call;
+pub mod hold;
+pub mod jobs;
+pub mod lent;
+pub mod library;
+pub mod one_job;
+pub mod rooms;
+pub mod run;
+pub mod schedules;
+pub mod tally;
+pub mod walk;
+pub mod work;

@@ -1,0 +1,149 @@
+//! Everything that is compared for one job.
+
+use crate::call::{Call, Checker};
+use crate::hold::hold;
+use crate::rooms::Room;
+use crate::tally::Tally;
+use crate::{jobs, rooms, schedules};
+use second::random::Random;
+use second::{decode, Job};
+
+/// Differences are kept with the job's number, so that they can be put in order.
+#[derive(Clone, Debug, PartialEq, Eq, PartialOrd, Ord)]
+pub struct Difference {
+    pub job: u64,
+    pub text: String,
+}
+
+/// Compares the calls of one job and counts them; the same seed and number give the same calls.
+pub fn compare_job(
+    library: &dyn Checker,
+    seed: u64,
+    number: u64,
+    tally: &mut Tally,
+) -> Vec<Difference> {
+    let mut comparison = Comparison {
+        library,
+        random: random_for(seed, number),
+        number,
+        model: None,
+        tally,
+        differences: Vec::new(),
+    };
+    comparison.run();
+    comparison.differences
+}
+
+/// Each job has numbers of its own, whichever jobs were made before.
+fn random_for(seed: u64, number: u64) -> Random {
+    let start = Random::new(seed).word() ^ number;
+    Random::new(Random::new(start).word())
+}
+
+struct Comparison<'a> {
+    library: &'a dyn Checker,
+    random: Random,
+    number: u64,
+    /// Of an accepted job.
+    model: Option<second::job::Model>,
+    tally: &'a mut Tally,
+    differences: Vec<Difference>,
+}
+
+impl Comparison<'_> {
+    fn run(&mut self) {
+        let job = jobs::job(&mut self.random, self.number);
+        match decode(&job) {
+            Ok(decoded) => self.accepted(&job, &decoded),
+            Err(refusal) => {
+                self.tally.refused_job(refusal.number);
+                self.refused(&job);
+            }
+        }
+        let call = Call::fences(&mut self.random, &job);
+        self.hold(call);
+    }
+
+    fn refused(&mut self, job: &[u8]) {
+        for room in rooms::for_refused(&mut self.random) {
+            self.search(job, &room);
+        }
+        for schedule in schedules::for_refused(&mut self.random) {
+            self.replay(job, &schedule);
+        }
+    }
+
+    fn accepted(&mut self, job: &[u8], decoded: &Job) {
+        self.model = Some(decoded.model);
+        self.tally.accepted_job(decoded);
+        let roomy = match self.number {
+            jobs::COUNTER => rooms::over_most(),
+            _ => rooms::roomy(&mut self.random),
+        };
+        self.tally.room(&roomy);
+        let first = self.search(job, &roomy);
+        let mut found = None;
+        let more_rooms = match first.words() {
+            [1, distance, states, _] => {
+                self.tally.distance(distance);
+                found = Some(&first.schedule.part()[..distance as usize]);
+                let ends = level_ends(&first.links.part()[..states as usize]);
+                rooms::about(&mut self.random, &ends)
+            }
+            [2, states, ..] => {
+                let ends = level_ends(&first.links.part()[..states as usize]);
+                rooms::about(&mut self.random, &ends)
+            }
+            [_, slots, ..] => {
+                let ends = level_ends(&first.links.part()[..slots as usize]);
+                rooms::within(&mut self.random, &ends)
+            }
+        };
+        for room in more_rooms {
+            self.tally.room(&room);
+            self.search(job, &room);
+        }
+        for schedule in schedules::for_accepted(&mut self.random, decoded, found) {
+            self.replay(job, &schedule);
+        }
+    }
+
+    fn search(&mut self, job: &[u8], room: &Room) -> Call {
+        let call = Call::search(&mut self.random, job, room.sizes);
+        self.hold(call)
+    }
+
+    fn replay(&mut self, job: &[u8], schedule: &[u8]) {
+        let call = Call::replay(&mut self.random, job, schedule);
+        self.hold(call);
+    }
+
+    /// Gives the call as it should be left, so that one wrong answer doesn't lead to others.
+    fn hold(&mut self, call: Call) -> Call {
+        let held = hold(self.library, call);
+        self.tally.call(&held.expected, self.model);
+        if let Some(text) = held.difference {
+            self.differences.push(Difference {
+                job: self.number,
+                text,
+            });
+        }
+        held.expected
+    }
+}
+
+/// How many states there are up to the end of each level, by the links of the counted states.
+fn level_ends(links: &[u32]) -> Vec<usize> {
+    let mut levels: Vec<usize> = Vec::new();
+    let mut ends = Vec::new();
+    for (slot, link) in links.iter().enumerate() {
+        let before = levels.get((link / 64) as usize);
+        let level = before.map_or(0, |level| level + 1);
+        if levels.last().is_some_and(|&last| last < level) {
+            ends.push(slot);
+        }
+        levels.push(level);
+    }
+    ends.push(links.len());
+    ends
+}

@@ -1,0 +1,293 @@
+//! What a run was made of, so that a run over jobs of one kind doesn't pass for a test.
+
+use crate::call::{Call, Kind};
+use crate::rooms::{self, Room};
+use crate::schedules::LONG;
+use second::job::{Instruction, Model};
+use second::machine::SLOT_BYTES;
+use second::Job;
+use std::collections::BTreeMap;
+
+type Class = (&'static str, &'static str);
+
+const NUMBERS: [&str; 9] = ["0", "1", "2", "3", "4", "5", "6", "7", "8"];
+const JOBS: &str = "jobs";
+const REFUSED: &str = "jobs refused by";
+const ROOM: &str = "rooms";
+const SHORTEST: &str = "the shortest";
+const REFUSED_SEARCHES: &str = "searches refused by";
+const MODELS: [&str; 3] = ["searches, SC", "searches, TSO", "searches, PSO"];
+const DISTANCE: &str = "distances";
+const REPLAYS: &str = "replays";
+const FENCES: &str = "fence checks";
+const THREADS: &str = "threads";
+const VARIABLES: &str = "variables";
+const CAPACITY: &str = "capacities";
+const PROGRAMS: &str = "jobs with";
+const GOALS: &str = "goals";
+
+/// Every class that is named in the summary, in its order.
+const SECTIONS: [(&str, &[&str]); 17] = [
+    (JOBS, &["accepted", "refused"]),
+    (REFUSED, &["1", "2", "3", "4", "5", "6"]),
+    (THREADS, &["1", "2", "3", "4"]),
+    (VARIABLES, &["1", "2", "3", "4", "5", "6", "7", "8"]),
+    (CAPACITY, &NUMBERS),
+    (
+        PROGRAMS,
+        &[
+            "a jump back",
+            "a jump to its own place",
+            "a jump to place n",
+            "a thread of no instructions",
+            "4 threads of 32",
+        ],
+    ),
+    (
+        GOALS,
+        &["any buffers", "empty buffers", "no clause", "16 clauses"],
+    ),
+    (
+        ROOM,
+        &[
+            rooms::ROOMY,
+            rooms::OVER_MOST,
+            rooms::WITHIN,
+            rooms::LEVEL_END,
+            rooms::NO_SLOT,
+            rooms::ONE_SLOT,
+            rooms::ONE_SHORT,
+            rooms::BYTE_SHORT,
+            rooms::JUST_ENOUGH,
+            rooms::ONE_MORE,
+        ],
+    ),
+    (SHORTEST, &["table", "links", "schedule"]),
+    (REFUSED_SEARCHES, &["1", "2", "3", "4", "5", "6", "7"]),
+    (MODELS[0], &["reachable", "unreachable", "unknown"]),
+    (MODELS[1], &["reachable", "unreachable", "unknown"]),
+    (MODELS[2], &["reachable", "unreachable", "unknown"]),
+    (
+        DISTANCE,
+        &["0", "1 to 4", "5 to 9", "10 to 19", "20 or more"],
+    ),
+    (
+        REPLAYS,
+        &[
+            "refused",
+            "reaches",
+            "falls short",
+            "stuck",
+            "over 65,536 steps",
+            "stuck behind 65,536",
+        ],
+    ),
+    (FENCES, &["refused", "FENCED", "OPEN"]),
+    ("calls", &["search", "replay", "fence check"]),
+];
+
+#[derive(Clone, Debug, Default, PartialEq, Eq)]
+pub struct Tally {
+    counts: BTreeMap<Class, u64>,
+    pub greatest_distance: u64,
+    pub most_states: u64,
+}
+
+impl Tally {
+    pub fn add(&mut self, other: &Tally) {
+        for (&class, count) in &other.counts {
+            *self.counts.entry(class).or_default() += count;
+        }
+        self.greatest_distance = self.greatest_distance.max(other.greatest_distance);
+        self.most_states = self.most_states.max(other.most_states);
+    }
+
+    fn count(&mut self, section: &'static str, class: &'static str) {
+        *self.counts.entry((section, class)).or_default() += 1;
+    }
+
+    pub fn counted(&self, section: &'static str, class: &'static str) -> u64 {
+        self.counts.get(&(section, class)).copied().unwrap_or(0)
+    }
+
+    /// Classes of the summary that the run never met.
+    pub fn empty_classes(&self) -> Vec<String> {
+        let classes = SECTIONS
+            .iter()
+            .flat_map(|&(section, classes)| classes.iter().map(move |&class| (section, class)));
+        classes
+            .filter(|&(section, class)| self.counted(section, class) == 0)
+            .map(|(section, class)| format!("{section}: {class}"))
+            .collect()
+    }
+
+    pub fn refused_job(&mut self, number: u8) {
+        self.count(JOBS, "refused");
+        self.count(REFUSED, NUMBERS[usize::from(number)]);
+    }
+
+    pub fn accepted_job(&mut self, job: &Job) {
+        self.count(JOBS, "accepted");
+        self.count(THREADS, NUMBERS[job.programs.len()]);
+        self.count(VARIABLES, NUMBERS[job.initial.len()]);
+        self.count(CAPACITY, NUMBERS[job.capacity]);
+        self.count_goal(job);
+        self.count_programs(job);
+    }
+
+    fn count_goal(&mut self, job: &Job) {
+        self.count(
+            GOALS,
+            if job.goal.buffers_empty {
+                "empty buffers"
+            } else {
+                "any buffers"
+            },
+        );
+        match job.goal.clauses.len() {
+            0 => self.count(GOALS, "no clause"),
+            16 => self.count(GOALS, "16 clauses"),
+            _ => {}
+        }
+    }
+
+    fn count_programs(&mut self, job: &Job) {
+        let (mut back, mut own, mut end) = (false, false, false);
+        for program in &job.programs {
+            for (place, instruction) in program.iter().enumerate() {
+                if let Instruction::Jump { target } | Instruction::JumpIfEqual { target, .. } =
+                    *instruction
+                {
+                    back |= target < place;
+                    own |= target == place;
+                    end |= target == program.len();
+                }
+            }
+        }
+        let full = |program: &Vec<Instruction>| program.len() == 32;
+        let shapes = [
+            ("a jump back", back),
+            ("a jump to its own place", own),
+            ("a jump to place n", end),
+            (
+                "a thread of no instructions",
+                job.programs.iter().any(Vec::is_empty),
+            ),
+            (
+                "4 threads of 32",
+                job.programs.len() == 4 && job.programs.iter().all(full),
+            ),
+        ];
+        for (shape, _) in shapes.into_iter().filter(|(_, met)| *met) {
+            self.count(PROGRAMS, shape);
+        }
+    }
+
+    /// A search of an accepted job.
+    pub fn room(&mut self, room: &Room) {
+        self.count(ROOM, room.edge);
+        let slots = room.sizes.table / SLOT_BYTES;
+        let (links, schedule) = (room.sizes.links, room.sizes.schedule);
+        if slots < links.min(schedule) {
+            self.count(SHORTEST, "table");
+        } else if links < slots.min(schedule) {
+            self.count(SHORTEST, "links");
+        } else if schedule < slots.min(links) {
+            self.count(SHORTEST, "schedule");
+        }
+    }
+
+    /// The least distance of a goal, once for each job.
+    pub fn distance(&mut self, distance: u64) {
+        self.greatest_distance = self.greatest_distance.max(distance);
+        let class = match distance {
+            0 => "0",
+            1..=4 => "1 to 4",
+            5..=9 => "5 to 9",
+            10..=19 => "10 to 19",
+            _ => "20 or more",
+        };
+        self.count(DISTANCE, class);
+    }
+
+    /// What was answered; the model is there when the job was accepted.
+    pub fn call(&mut self, call: &Call, model: Option<Model>) {
+        match call.kind {
+            Kind::Search => self.search(call.words(), model),
+            Kind::Replay => self.replay(call.words(), call.schedule.count()),
+            Kind::Fences => self.fences(call.words()),
+        }
+    }
+
+    fn search(&mut self, [kind, first, second, _]: [u64; 4], model: Option<Model>) {
+        self.count("calls", "search");
+        let (class, states) = match kind {
+            1 => ("reachable", second),
+            2 => ("unreachable", first),
+            3 => ("unknown", first),
+            _ => {
+                let number = NUMBERS.get(first as usize).unwrap_or(&"none");
+                return self.count(REFUSED_SEARCHES, number);
+            }
+        };
+        self.most_states = self.most_states.max(states);
+        if let Some(model) = model {
+            self.count(MODELS[model as usize], class);
+        }
+    }
+
+    fn replay(&mut self, [kind, first, ..]: [u64; 4], steps: usize) {
+        self.count("calls", "replay");
+        let class = match kind {
+            1 => "reaches",
+            2 => "falls short",
+            3 => "stuck",
+            _ => "refused",
+        };
+        self.count(REPLAYS, class);
+        let taken = if kind == 3 { first } else { steps as u64 };
+        if kind != 0 && taken > LONG as u64 {
+            self.count(REPLAYS, "over 65,536 steps");
+            if kind == 3 {
+                self.count(REPLAYS, "stuck behind 65,536");
+            }
+        }
+    }
+
+    fn fences(&mut self, [kind, ..]: [u64; 4]) {
+        self.count("calls", "fence check");
+        let class = match kind {
+            1 => "FENCED",
+            2 => "OPEN",
+            _ => "refused",
+        };
+        self.count(FENCES, class);
+    }
+
+    /// One line a section, and the greatest numbers.
+    pub fn summary(&self) -> String {
+        let mut text = String::new();
+        for (section, classes) in SECTIONS {
+            let counts: Vec<String> = classes
+                .iter()
+                .map(|&class| match section {
+                    // These classes are numbers themselves.
+                    REFUSED | REFUSED_SEARCHES | THREADS | VARIABLES | CAPACITY | DISTANCE => {
+                        format!("{class}: {}", self.counted(section, class))
+                    }
+                    _ => format!("{class} {}", self.counted(section, class)),
+                })
+                .collect();
+            text += &format!("{section:20} {}\n", counts.join(", "));
+        }
+        let far: u64 = ["5 to 9", "10 to 19", "20 or more"]
+            .iter()
+            .map(|class| self.counted(DISTANCE, class))
+            .sum();
+        text += &format!(
+            "{:20} greatest {}, {far} of 5 or more; the largest search counted {} states\n",
+            "", self.greatest_distance, self.most_states
+        );
+        text
+    }
+}

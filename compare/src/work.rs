@@ -1,0 +1,94 @@
+//! How much work a search is, counted and not timed: steps taken, and slots compared to look states up.
+
+use second::machine::{successors, State};
+use second::Job;
+use std::collections::HashMap;
+
+#[derive(Clone, Copy, Debug, Default, PartialEq, Eq)]
+pub struct Work {
+    pub states: u64,
+    pub steps: u64,
+    pub comparisons: u64,
+}
+
+/// The work of a search for a goal that is never met, as `crates/search` goes about it:
+/// each state that a step leads to is compared with the counted slots in turn.
+pub fn work(job: &Job, slots: usize) -> Work {
+    let start = State::start(job);
+    let mut slot_of = HashMap::from([(start.clone(), 0)]);
+    let mut states = vec![start];
+    let mut work = Work::default();
+    let mut full = false;
+    let mut expanded = 0;
+    // Once a state was left out, its level is still expanded but nothing more is looked up.
+    while !full && expanded < states.len() {
+        let level_end = states.len();
+        for slot in expanded..level_end {
+            for (_, next) in successors(job, &states[slot]) {
+                work.steps += 1;
+                if full {
+                    continue;
+                }
+                match slot_of.get(&next) {
+                    Some(known) => work.comparisons += known + 1,
+                    None => {
+                        work.comparisons += states.len() as u64;
+                        full = states.len() == slots;
+                        if !full {
+                            slot_of.insert(next.clone(), states.len() as u64);
+                            states.push(next);
+                        }
+                    }
+                }
+            }
+        }
+        expanded = level_end;
+    }
+    work.states = states.len() as u64;
+    work
+}
+
+#[cfg(test)]
+mod tests {
+    use super::*;
+    use second::decode;
+    use second::listed::{bench_list, file, SC};
+
+    fn work_of(job: &[u8], slots: usize) -> Work {
+        work(&decode(job).expect("the job is sound"), slots)
+    }
+
+    #[test]
+    fn one_thread_compares_with_all_that_were_before() {
+        let job = file(SC, &[0], &[vec![[1, 0, 0, 7]; 4]], 0, &[]);
+        let whole = Work {
+            states: 5,
+            steps: 4,
+            comparisons: 1 + 2 + 3 + 4,
+        };
+        assert_eq!(work_of(&job, 9), whole);
+        // The fourth state is looked up and then left out.
+        let short = Work {
+            states: 3,
+            steps: 3,
+            comparisons: 1 + 2 + 3,
+        };
+        assert_eq!(work_of(&job, 3), short);
+    }
+
+    #[test]
+    fn a_state_that_is_known_costs_its_place() {
+        let job = file(SC, &[0], &[vec![[9, 0, 0, 0]]], 0, &[]);
+        let whole = Work {
+            states: 1,
+            steps: 1,
+            comparisons: 1,
+        };
+        assert_eq!(work_of(&job, 9), whole);
+    }
+
+    #[test]
+    fn all_states_of_an_unreachable_goal_are_counted() {
+        assert_eq!(work_of(&bench_list()[1], 640).states, 13);
+    }
+}

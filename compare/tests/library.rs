@@ -1,0 +1,240 @@
+//! The library as its user meets it: a job's bytes, lent slices, four words back.
+
+use compare::library::{fences, replay, search};
+use second::listed::{bench_list, settled, with_byte, P1};
+use second::machine::SLOT_BYTES;
+
+const NO_LINK: u32 = 4_294_967_295;
+const TABLE_MARK: u8 = 0xA5;
+const LINK_MARK: u32 = 0xDEAD_BEEF;
+const SCHEDULE_MARK: u8 = 0x5A;
+
+/// What a search leaves behind in memory that was full of marks before.
+struct Run {
+    answer: [u64; 4],
+    table: Vec<u8>,
+    links: Vec<u32>,
+    schedule: Vec<u8>,
+}
+
+fn run(job: &[u8], slots: usize) -> Run {
+    run_sized(job, slots * SLOT_BYTES, slots, slots)
+}
+
+fn run_sized(job: &[u8], table: usize, links: usize, schedule: usize) -> Run {
+    let mut run = Run {
+        answer: [9; 4],
+        table: vec![TABLE_MARK; table],
+        links: vec![LINK_MARK; links],
+        schedule: vec![SCHEDULE_MARK; schedule],
+    };
+    run.answer = search(job, &mut run.table, &mut run.links, &mut run.schedule);
+    run
+}
+
+impl Run {
+    /// True when only so many slots and links, and so many schedule bytes, were written.
+    fn wrote_no_more_than(&self, slots: usize, steps: usize) -> bool {
+        self.table[slots * SLOT_BYTES..]
+            .iter()
+            .all(|&byte| byte == TABLE_MARK)
+            && self.links[slots..].iter().all(|&link| link == LINK_MARK)
+            && self.schedule[steps..]
+                .iter()
+                .all(|&byte| byte == SCHEDULE_MARK)
+    }
+}
+
+/// P `number` of the bench list.
+fn p(number: usize) -> Vec<u8> {
+    bench_list().swap_remove(number - 1)
+}
+
+/// A state of P1: places, register 0 of both threads, x and y, whether each thread's store is pending, link.
+type Row = ([u8; 2], [u8; 2], [u8; 2], [bool; 2], u32);
+
+/// All states of P1 up to distance 4, in order; a link is 64 times the slot before plus the step.
+const P1_STATES: [Row; 22] = [
+    ([0, 0], [0, 0], [0, 0], [false, false], NO_LINK),
+    ([1, 0], [0, 0], [0, 0], [true, false], 0),
+    ([0, 1], [0, 0], [0, 0], [false, true], 1),
+    ([2, 0], [0, 0], [0, 0], [true, false], 64),
+    ([1, 1], [0, 0], [0, 0], [true, true], 64 + 1),
+    ([1, 0], [0, 0], [1, 0], [false, false], 64 + 4),
+    ([0, 2], [0, 0], [0, 0], [false, true], 2 * 64 + 1),
+    ([0, 1], [0, 0], [0, 1], [false, false], 2 * 64 + 13),
+    ([2, 1], [0, 0], [0, 0], [true, true], 3 * 64 + 1),
+    ([2, 0], [0, 0], [1, 0], [false, false], 3 * 64 + 4),
+    ([1, 2], [0, 0], [0, 0], [true, true], 4 * 64 + 1),
+    ([1, 1], [0, 0], [1, 0], [false, true], 4 * 64 + 4),
+    ([1, 1], [0, 0], [0, 1], [true, false], 4 * 64 + 13),
+    ([0, 2], [0, 0], [0, 1], [false, false], 6 * 64 + 13),
+    ([2, 2], [0, 0], [0, 0], [true, true], 8 * 64 + 1),
+    ([2, 1], [0, 0], [1, 0], [false, true], 8 * 64 + 4),
+    ([2, 1], [0, 0], [0, 1], [true, false], 8 * 64 + 13),
+    ([1, 2], [0, 0], [1, 0], [false, true], 10 * 64 + 4),
+    ([1, 2], [0, 0], [0, 1], [true, false], 10 * 64 + 13),
+    ([1, 2], [0, 1], [1, 0], [false, true], 11 * 64 + 1),
+    ([1, 1], [0, 0], [1, 1], [false, false], 11 * 64 + 13),
+    ([2, 1], [1, 0], [0, 1], [true, false], 12 * 64),
+];
+
+/// Thread 0 stores 1 to variable 0, thread 1 stores 1 to variable 1.
+fn slot_of((places, registers, memory, pending, _): &Row) -> Vec<u8> {
+    let mut slot = vec![0; SLOT_BYTES];
+    slot[..2].copy_from_slice(places);
+    slot[4] = registers[0];
+    slot[8] = registers[1];
+    slot[20..22].copy_from_slice(memory);
+    if pending[0] {
+        slot[28..31].copy_from_slice(&[1, 0, 1]);
+    }
+    if pending[1] {
+        slot[45..48].copy_from_slice(&[1, 1, 1]);
+    }
+    slot
+}
+
+fn first_p1_slots(count: usize) -> Vec<u8> {
+    P1_STATES[..count].iter().flat_map(slot_of).collect()
+}
+
+fn first_p1_links(count: usize) -> Vec<u32> {
+    P1_STATES[..count].iter().map(|row| row.4).collect()
+}
+
+#[test]
+fn p1_whole() {
+    let run = run(&P1, 640);
+    assert_eq!(run.answer, [1, 4, 22, 0]);
+    assert_eq!(run.table[..22 * SLOT_BYTES], first_p1_slots(22));
+    assert_eq!(run.links[..22], first_p1_links(22));
+    assert_eq!(run.schedule[..4], [0, 0, 1, 1]);
+    assert!(run.wrote_no_more_than(22, 4));
+}
+
+#[test]
+fn p1_in_22_slots_has_the_same_answer() {
+    let run = run(&P1, 22);
+    assert_eq!(run.answer, [1, 4, 22, 0]);
+    assert_eq!(run.table, first_p1_slots(22));
+    assert_eq!(run.links, first_p1_links(22));
+    assert_eq!(run.schedule[..4], [0, 0, 1, 1]);
+    assert!(run.wrote_no_more_than(22, 4));
+}
+
+#[test]
+fn p1_in_21_slots_is_unknown() {
+    for (table, links, schedule) in [
+        (21 * SLOT_BYTES, 21, 21),
+        (22 * SLOT_BYTES - 1, 22, 22),
+        (30 * SLOT_BYTES, 21, 30),
+        (30 * SLOT_BYTES, 30, 21),
+    ] {
+        let run = run_sized(&P1, table, links, schedule);
+        assert_eq!(run.answer, [3, 21, 0, 0]);
+        assert_eq!(run.table[..21 * SLOT_BYTES], first_p1_slots(21));
+        assert_eq!(run.links[..21], first_p1_links(21));
+        assert!(run.wrote_no_more_than(21, 0));
+    }
+}
+
+#[test]
+fn p2_is_unreachable_under_sc() {
+    let run = run(&p(2), 640);
+    assert_eq!(run.answer, [2, 13, 0, 0]);
+    assert_eq!(run.links[0], NO_LINK);
+    assert!(run.wrote_no_more_than(13, 0));
+}
+
+#[test]
+fn p3_takes_two_flushes_more() {
+    let run = run(&p(3), 640);
+    assert_eq!(run.answer, [1, 6, 34, 0]);
+    assert_eq!(run.schedule[..6], [0x00, 0x00, 0x01, 0x01, 0x04, 0x0D]);
+    assert_eq!(run.table[..22 * SLOT_BYTES], first_p1_slots(22));
+    assert!(run.wrote_no_more_than(34, 6));
+}
+
+#[test]
+fn found_schedules_replay_to_their_goals() {
+    assert_eq!(replay(&P1, &[0, 0, 1, 1]), [1, 0, 0, 0]);
+    assert_eq!(replay(&P1, &[0, 0, 1]), [2, 0, 0, 0]);
+    assert_eq!(replay(&p(3), &[0, 0, 1, 1, 4, 13]), [1, 0, 0, 0]);
+    assert_eq!(replay(&p(3), &[0, 0, 1, 1, 4]), [2, 0, 0, 0]);
+}
+
+#[test]
+fn p10_is_stuck_on_a_full_buffer() {
+    assert_eq!(replay(&p(10), &[0, 0]), [3, 1, 0, 0]);
+}
+
+#[test]
+fn p11_numbers_above_35_are_no_steps() {
+    for step in [0x24, 63, 64, 128, 255] {
+        assert_eq!(replay(&p(11), &[step]), [3, 0, 0, 0]);
+        assert_eq!(replay(&P1, &[0, 0, step, 1]), [3, 2, 0, 0]);
+    }
+}
+
+#[test]
+fn p1_is_open_and_p9_fenced() {
+    assert_eq!(fences(&P1), [2, 0, 0, 1]);
+    assert_eq!(fences(&p(9)), [1, 0, 0, 0]);
+    assert_eq!(run(&p(9), 640).answer[0], 2);
+}
+
+#[test]
+fn refusals_are_alike_and_write_nothing() {
+    let cases = [
+        (vec![], 1, 0),
+        (vec![0, 1, 2], 2, 2),
+        (vec![0, 1, 1], 6, 3),
+        (with_byte(&P1, 1, 0x2A), 1, 0),
+        (with_byte(&P1, 4, 9), 3, 4),
+        (with_byte(&P1, 10, 0x0A), 4, 10),
+        (with_byte(&P1, 27, 2), 5, 27),
+        (with_byte(&P1, 41, 4), 5, 41),
+        (settled([&P1[..], &[0]].concat()), 6, 45),
+    ];
+    for (job, number, offset) in cases {
+        let refusal = [0, number, offset, 0];
+        let run = run(&job, 640);
+        assert_eq!(run.answer, refusal, "{job:?}");
+        assert!(run.wrote_no_more_than(0, 0));
+        assert_eq!(replay(&job, &[0, 0, 1, 1]), refusal);
+        assert_eq!(fences(&job), refusal);
+    }
+}
+
+#[test]
+fn no_slot_is_refusal_7_and_comes_last() {
+    let bad = with_byte(&P1, 10, 0x0A);
+    for (table, links, schedule) in [(95, 9, 9), (0, 9, 9), (960, 0, 9), (960, 9, 0)] {
+        let run = run_sized(&P1, table, links, schedule);
+        assert_eq!(run.answer, [0, 7, 0, 0]);
+        assert!(run.wrote_no_more_than(0, 0));
+        assert_eq!(
+            run_sized(&bad, table, links, schedule).answer,
+            [0, 4, 10, 0]
+        );
+    }
+}
+
+#[test]
+fn empty_slices_are_no_special_case() {
+    // Rust's empty slices have a pointer that is not null and points at nothing.
+    assert_eq!(search(&P1, &mut [], &mut [], &mut []), [0, 7, 0, 0]);
+    assert_eq!(search(&[], &mut [], &mut [], &mut []), [0, 1, 0, 0]);
+    assert_eq!(replay(&[], &[]), [0, 1, 0, 0]);
+    assert_eq!(replay(&P1, &[]), [2, 0, 0, 0]);
+    assert_eq!(replay(&p(12), &[]), [1, 0, 0, 0]);
+    assert_eq!(fences(&[]), [0, 1, 0, 0]);
+}
+
+#[test]
+fn p12_is_reached_at_the_start() {
+    let run = run(&p(12), 1);
+    assert_eq!(run.answer, [1, 0, 1, 0]);
+    assert!(run.wrote_no_more_than(1, 0));
+}

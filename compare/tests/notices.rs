@@ -1,0 +1,292 @@
+//! The comparison notices what it is there for: stand-ins that err in one place each.
+
+use compare::call::{Call, Checker, Kind, Second};
+use compare::hold::hold;
+use compare::jobs;
+use compare::run::{run, Plan, Report};
+use second::listed::{with_byte, P1};
+use second::machine::SLOT_BYTES;
+use second::random::{Random, Sizes};
+
+/// Answers as the second checker does, and then spoils what it left.
+struct Spoiling<F>(F);
+
+impl<F: Fn(&mut Call) + Sync> Checker for Spoiling<F> {
+    fn run(&self, call: &mut Call) {
+        Second.run(call);
+        (self.0)(call);
+    }
+}
+
+fn report(library: &dyn Checker, jobs: u64, threads: usize) -> Report {
+    let plan = Plan {
+        // The first job is by far the slowest, and not needed here.
+        first: jobs::COUNTER + 1,
+        jobs,
+        seed: 7,
+        threads,
+    };
+    run(library, plan, &|_, _| {})
+}
+
+/// What a run of a few jobs says first about a stand-in that spoils its calls so.
+fn first_difference(spoil: impl Fn(&mut Call) + Sync) -> String {
+    let report = report(&Spoiling(spoil), 200, 1);
+    assert!(report.differences > 0, "nothing was noticed");
+    report.kept[0].text.clone()
+}
+
+fn set_answer(call: &mut Call, words: [u64; 4]) {
+    call.answer.part_mut().copy_from_slice(&words);
+}
+
+fn slots(call: &Call) -> usize {
+    match call.words() {
+        [1, _, states, _] | [2, states, ..] | [3, states, ..] => states as usize,
+        _ => 0,
+    }
+}
+
+fn flip(cell: Option<&mut u8>) {
+    if let Some(byte) = cell {
+        *byte ^= 1;
+    }
+}
+
+#[test]
+fn an_honest_stand_in_has_no_difference_on_any_number_of_threads() {
+    let alone = report(&Second, 600, 1);
+    assert_eq!(alone.differences, 0, "{:?}", alone.kept);
+    assert_eq!(report(&Second, 600, 2), alone);
+    assert_eq!(report(&Second, 600, 5), alone);
+}
+
+#[test]
+fn differences_are_the_same_on_any_number_of_threads() {
+    let liar = Spoiling(|call: &mut Call| {
+        if call.kind == Kind::Fences {
+            set_answer(call, [1, 0, 0, 0]);
+        }
+    });
+    let alone = report(&liar, 400, 1);
+    assert!(alone.differences > 20 && alone.kept.len() == 20);
+    assert_eq!(report(&liar, 400, 3), alone);
+}
+
+#[test]
+fn unknown_given_as_unreachable() {
+    let text = first_difference(|call| {
+        if call.kind == Kind::Search && call.words()[0] == 3 {
+            let states = call.words()[1];
+            set_answer(call, [2, states, 0, 0]);
+        }
+    });
+    assert!(
+        text.contains("answer: first difference at 0: library 2, second checker 3"),
+        "{text}"
+    );
+}
+
+#[test]
+fn a_wrong_count_of_states() {
+    first_difference(|call| {
+        if call.kind == Kind::Search && call.words()[0] == 1 {
+            call.answer.part_mut()[2] += 1;
+        }
+    });
+}
+
+#[test]
+fn a_refusal_at_another_offset() {
+    first_difference(|call| {
+        if call.words()[0] == 0 {
+            call.answer.part_mut()[2] += 4;
+        }
+    });
+}
+
+#[test]
+fn a_wrong_byte_in_the_last_slot() {
+    let text = first_difference(|call| {
+        let end = slots(call) * SLOT_BYTES;
+        if call.kind == Kind::Search && end > 0 {
+            flip(call.table.part_mut().get_mut(end - 1));
+        }
+    });
+    assert!(text.contains("table: first difference at"), "{text}");
+}
+
+#[test]
+fn a_byte_behind_the_last_counted_slot() {
+    first_difference(|call| {
+        let end = slots(call) * SLOT_BYTES;
+        if call.kind == Kind::Search && end > 0 {
+            flip(call.table.part_mut().get_mut(end));
+        }
+    });
+}
+
+#[test]
+fn a_wrong_link() {
+    let text = first_difference(|call| {
+        let count = slots(call);
+        if call.kind == Kind::Search && count > 1 {
+            call.links.part_mut()[count - 1] ^= 64;
+        }
+    });
+    assert!(text.contains("links: first difference at"), "{text}");
+}
+
+#[test]
+fn a_link_behind_the_counted_ones() {
+    first_difference(|call| {
+        let count = slots(call);
+        if let (Kind::Search, Some(link)) = (call.kind, call.links.part_mut().get_mut(count)) {
+            *link = 0;
+        }
+    });
+}
+
+#[test]
+fn a_wrong_last_step() {
+    first_difference(|call| {
+        if let (Kind::Search, [1, distance, ..]) = (call.kind, call.words()) {
+            flip(call.schedule.part_mut()[..distance as usize].last_mut());
+        }
+    });
+}
+
+#[test]
+fn a_schedule_although_nothing_is_reachable() {
+    first_difference(|call| {
+        if call.kind == Kind::Search && call.words()[0] == 2 {
+            flip(call.schedule.part_mut().first_mut());
+        }
+    });
+}
+
+#[test]
+fn a_touched_guard() {
+    let after = first_difference(|call| flip(call.table.whole_mut().last_mut()));
+    assert!(after.contains("(outside of what was lent)"), "{after}");
+    let before = first_difference(|call| flip(call.schedule.whole_mut().first_mut()));
+    assert!(
+        before.contains("schedule: first difference at -"),
+        "{before}"
+    );
+    first_difference(|call| call.links.whole_mut()[0] ^= 1);
+    first_difference(|call| call.answer.whole_mut()[0] ^= 1);
+}
+
+#[test]
+fn a_write_after_a_refusal() {
+    let refused = |call: &Call| call.kind == Kind::Search && call.words()[0] == 0;
+    first_difference(|call| {
+        if refused(call) {
+            flip(call.table.part_mut().last_mut());
+        }
+    });
+    first_difference(|call| {
+        if let (true, Some(link)) = (refused(call), call.links.part_mut().first_mut()) {
+            *link = u32::MAX;
+        }
+    });
+    first_difference(|call| {
+        if refused(call) {
+            flip(call.schedule.part_mut().first_mut());
+        }
+    });
+}
+
+#[test]
+fn a_changed_job_or_replayed_schedule() {
+    first_difference(|call| flip(call.job.part_mut().first_mut()));
+    first_difference(|call| {
+        if call.kind == Kind::Replay {
+            flip(call.schedule.part_mut().last_mut());
+        }
+    });
+}
+
+#[test]
+fn a_replay_that_always_reaches_or_is_stuck_elsewhere() {
+    first_difference(|call| {
+        if call.kind == Kind::Replay && call.words()[0] == 2 {
+            set_answer(call, [1, 0, 0, 0]);
+        }
+    });
+    first_difference(|call| {
+        if let (Kind::Replay, [3, at, ..]) = (call.kind, call.words()) {
+            set_answer(call, [3, at + 1, 0, 0]);
+        }
+    });
+}
+
+#[test]
+fn a_fence_check_that_always_says_the_same() {
+    for words in [[1, 0, 0, 0], [2, 0, 0, 1]] {
+        first_difference(|call| {
+            if call.kind == Kind::Fences && call.words()[0] != 0 {
+                set_answer(call, words);
+            }
+        });
+    }
+}
+
+#[test]
+fn a_difference_is_told_in_full() {
+    let sizes = Sizes {
+        table: 2200,
+        links: 25,
+        schedule: 23,
+    };
+    let call = Call::search(&mut Random::new(1), &P1, sizes);
+    let liar = Spoiling(|call: &mut Call| {
+        call.table.part_mut()[97] = 9;
+        call.answer.part_mut()[1] = 5;
+    });
+    let text = hold(&liar, call).difference.expect("both spoils show");
+    for line in [
+        "search with 2200 table bytes, 25 links, 23 schedule bytes",
+        "job 00 2B 01 01 01 02 02",
+        "library 1 5 22 0",
+        "second checker 1 4 22 0",
+        "table: first difference at 97: library 9, second checker 0",
+    ] {
+        assert!(text.contains(line), "'{line}' is not in\n{text}");
+    }
+}
+
+#[test]
+fn a_refused_job_is_answered_alike_by_all_three() {
+    let job = with_byte(&P1, 10, 10);
+    let mut random = Random::new(2);
+    let sizes = Sizes {
+        table: 96,
+        links: 1,
+        schedule: 1,
+    };
+    for call in [
+        Call::search(&mut random, &job, sizes),
+        Call::replay(&mut random, &job, &[0, 0]),
+        Call::fences(&mut random, &job),
+    ] {
+        assert_eq!(hold(&Second, call).expected.words(), [0, 4, 10, 0]);
+    }
+}
+
+#[test]
+fn a_run_over_few_jobs_names_what_it_has_not_met() {
+    let few = report(&Second, 40, 2).tally.empty_classes();
+    assert!(
+        few.contains(&"replays: over 65,536 steps".to_string()),
+        "{few:?}"
+    );
+}
+
+#[test]
+fn a_run_over_many_jobs_meets_every_class() {
+    let many = report(&Second, 4000, 2).tally.empty_classes();
+    // Only the job that is left out here has so much room.
+    assert_eq!(many, ["rooms: over 65,536 slots"]);
+}
