@@ -3,6 +3,7 @@
 //! It favours plainness over memory: growing vectors, hash maps and explicit level sets.
 
 pub mod bench;
+pub mod fence_cases;
 pub mod fences;
 pub mod hex;
 pub mod job;
@@ -12,6 +13,7 @@ pub mod listed;
 pub mod machine;
 pub mod random;
 pub mod replay;
+pub mod replay_cases;
 pub mod search;
 pub mod search_cases;
 

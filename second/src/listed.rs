@@ -7,6 +7,9 @@ pub const P1: [u8; 45] = [
     0x02, 0x01, 0x01, 0x00, 0x02, 0x02, 0x00, 0x00, 0x00, 0x02, 0x01, 0x00, 0x00,
 ];
 
+/// The room for a job in the programs under test; a longer one would end their run.
+pub const ROOM_FOR_JOB: usize = 1024;
+
 /// Model and C.
 pub type Memory = [u8; 2];
 pub type Program = Vec<[u8; 4]>;
@@ -14,6 +17,9 @@ pub type Program = Vec<[u8; 4]>;
 pub const SC: Memory = [0, 0];
 pub const TSO: u8 = 1;
 pub const PSO: u8 = 2;
+
+/// Each model, with capacities at both ends of their range and between.
+pub const MEMORIES: [Memory; 6] = [SC, [TSO, 1], [TSO, 2], [PSO, 1], [PSO, 2], [PSO, 8]];
 
 /// A job file whose counts and length field are right.
 pub fn file(
@@ -83,7 +89,7 @@ fn wrapping_add() -> Vec<u8> {
 }
 
 /// P6 to P8, which differ in model and C.
-pub fn message_passing(memory: Memory) -> Vec<u8> {
+fn message_passing(memory: Memory) -> Vec<u8> {
     let writer = vec![[5, 0, 0, 1], [5, 0, 1, 1]];
     let reader = vec![[3, 0, 1, 0], [3, 1, 0, 0]];
     let goal = [[1, 1, 0, 2], [2, 1, 0, 1], [2, 1, 1, 0]];
@@ -100,6 +106,83 @@ fn fenced_store_buffering() -> Vec<u8> {
 fn two_stores() -> Vec<u8> {
     let program = vec![[5, 0, 0, 1], [5, 0, 0, 2]];
     file([TSO, 1], &[0], &[program], 0, &[])
+}
+
+/// Jobs of few states whose goals lie some steps away, where they can be reached.
+pub fn classics(memory: Memory) -> [Vec<u8>; 5] {
+    [
+        message_passing(memory),
+        load_buffering(memory),
+        exchanges(memory),
+        own_loads(memory),
+        seen_by_two_readers(memory),
+    ]
+}
+
+/// Each thread loads what the other stores later: no model here lets both see it.
+fn load_buffering(memory: Memory) -> Vec<u8> {
+    let first = vec![[3, 0, 0, 0], [5, 0, 1, 1]];
+    let second = vec![[3, 0, 1, 0], [5, 0, 0, 1]];
+    let goal = [[2, 0, 0, 1], [2, 1, 0, 1]];
+    file(memory, &[0, 0], &[first, second], 0, &goal)
+}
+
+/// Two threads that take turns by an exchange in a loop, and count in registers that wrap.
+fn exchanges(memory: Memory) -> Vec<u8> {
+    let thread = vec![
+        [1, 0, 0, 1],
+        [7, 0, 0, 0],
+        [8, 0, 1, 1],
+        [2, 1, 0, 255],
+        [5, 0, 0, 0],
+    ];
+    let goal = [[1, 0, 0, 5], [1, 1, 0, 5], [3, 0, 0, 0]];
+    file(memory, &[0], &[thread.clone(), thread], 1, &goal)
+}
+
+/// Three stores of one thread to two variables, and loads that have to take the newest of them.
+fn own_loads(memory: Memory) -> Vec<u8> {
+    let writer = vec![
+        [5, 0, 0, 1],
+        [5, 0, 1, 2],
+        [1, 2, 0, 3],
+        [4, 2, 0, 0],
+        [3, 0, 0, 0],
+        [3, 1, 1, 0],
+        [6, 0, 0, 0],
+    ];
+    let goal = [[2, 0, 0, 3], [2, 0, 1, 2], [3, 0, 0, 1]];
+    file(memory, &[0, 0], &[writer], 0, &goal)
+}
+
+/// Two writers and two readers: four threads at work at once make wide levels.
+fn seen_by_two_readers(memory: Memory) -> Vec<u8> {
+    let programs = [
+        vec![[5, 0, 0, 1]],
+        vec![[5, 0, 1, 1]],
+        vec![[3, 0, 0, 0], [3, 1, 1, 0]],
+        vec![[3, 0, 1, 0], [3, 1, 0, 0]],
+    ];
+    let goal = [[2, 2, 0, 1], [2, 2, 1, 0], [2, 3, 0, 1], [1, 3, 0, 2]];
+    file(memory, &[0, 0], &programs, 0, &goal)
+}
+
+/// A job for each way to be refused by a number from 1 to 6, with that number and the offset.
+pub fn refused_jobs() -> Vec<(Vec<u8>, [u64; 2])> {
+    let longer = [&at_the_limit()[..], &[0]].concat();
+    vec![
+        (vec![], [1, 0]),
+        (vec![0, 1, 2], [2, 2]),
+        (vec![0, 1, 1], [6, 3]),
+        (with_byte(&P1, 3, 3), [3, 3]),
+        (with_byte(&P1, 10, 10), [4, 10]),
+        (with_byte(&P1, 27, 2), [5, 27]),
+        // A clause more than there is, and one less.
+        (with_byte(&P1, 28, 5), [6, 45]),
+        (with_byte(&P1, 28, 3), [6, 41]),
+        (with_byte(&P1, 41, 4), [5, 41]),
+        (longer, [1, 0]),
+    ]
 }
 
 /// A job at every limit: 4 threads of 32 instructions, 8 variables and 16 clauses, in 597 bytes.

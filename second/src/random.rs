@@ -651,7 +651,8 @@ pub fn replay_schedule(random: &mut Random, job: &[u8]) -> Vec<u8> {
     schedule
 }
 
-fn found_schedule(job: &[u8]) -> Vec<u8> {
+/// The schedule that a search finds, or none.
+pub fn found_schedule(job: &[u8]) -> Vec<u8> {
     let mut table = vec![0; PROBE_SLOTS * SLOT_BYTES];
     let mut links = vec![0; PROBE_SLOTS];
     let mut schedule = vec![0; PROBE_SLOTS];

@@ -1,8 +1,6 @@
 //! Cases for the search in lent memory, and the two lines that each is answered with.
 
-use crate::listed::{
-    at_the_limit, bench_list, file, message_passing, with_byte, Memory, P1, PSO, SC, TSO,
-};
+use crate::listed::{at_the_limit, bench_list, classics, file, refused_jobs, MEMORIES, P1, TSO};
 use crate::machine::SLOT_BYTES;
 use crate::random::{buffer_sizes, sound_job, Random, Sizes};
 use crate::search::search;
@@ -103,8 +101,6 @@ fn count(job: &[u8]) -> usize {
     }
 }
 
-const MEMORIES: [Memory; 6] = [SC, [TSO, 1], [TSO, 2], [PSO, 1], [PSO, 2], [PSO, 8]];
-
 fn goal_at_the_start() -> Vec<Case> {
     let programs = [vec![[5, 0, 0, 1], [3, 0, 0, 0]]];
     let mut cases = Vec::new();
@@ -132,13 +128,7 @@ fn every_room() -> Vec<Case> {
 fn about_the_count() -> Vec<Case> {
     let mut cases = Vec::new();
     for memory in MEMORIES {
-        for job in [
-            message_passing(memory),
-            load_buffering(memory),
-            exchanges(memory),
-            own_loads(memory),
-            seen_by_two_readers(memory),
-        ] {
+        for job in classics(memory) {
             let needed = count(&job);
             for slots in [needed - 1, needed, needed + 1] {
                 cases.extend((0..3).map(|turn| lent(&job, slots, turn)));
@@ -151,54 +141,6 @@ fn about_the_count() -> Vec<Case> {
 
 fn fits(sizes: Sizes) -> bool {
     sizes.table <= ROOM.table && sizes.links <= ROOM.links && sizes.schedule <= ROOM.schedule
-}
-
-/// Each thread loads what the other stores later: no model here lets both see it.
-fn load_buffering(memory: Memory) -> Vec<u8> {
-    let first = vec![[3, 0, 0, 0], [5, 0, 1, 1]];
-    let second = vec![[3, 0, 1, 0], [5, 0, 0, 1]];
-    let goal = [[2, 0, 0, 1], [2, 1, 0, 1]];
-    file(memory, &[0, 0], &[first, second], 0, &goal)
-}
-
-/// Two threads that take turns by an exchange in a loop, and count in registers that wrap.
-fn exchanges(memory: Memory) -> Vec<u8> {
-    let thread = vec![
-        [1, 0, 0, 1],
-        [7, 0, 0, 0],
-        [8, 0, 1, 1],
-        [2, 1, 0, 255],
-        [5, 0, 0, 0],
-    ];
-    let goal = [[1, 0, 0, 5], [1, 1, 0, 5], [3, 0, 0, 0]];
-    file(memory, &[0], &[thread.clone(), thread], 1, &goal)
-}
-
-/// Three stores of one thread to two variables, and loads that have to take the newest of them.
-fn own_loads(memory: Memory) -> Vec<u8> {
-    let writer = vec![
-        [5, 0, 0, 1],
-        [5, 0, 1, 2],
-        [1, 2, 0, 3],
-        [4, 2, 0, 0],
-        [3, 0, 0, 0],
-        [3, 1, 1, 0],
-        [6, 0, 0, 0],
-    ];
-    let goal = [[2, 0, 0, 3], [2, 0, 1, 2], [3, 0, 0, 1]];
-    file(memory, &[0, 0], &[writer], 0, &goal)
-}
-
-/// Two writers and two readers: four threads at work at once make wide levels.
-fn seen_by_two_readers(memory: Memory) -> Vec<u8> {
-    let programs = [
-        vec![[5, 0, 0, 1]],
-        vec![[5, 0, 1, 1]],
-        vec![[3, 0, 0, 0], [3, 1, 1, 0]],
-        vec![[3, 0, 1, 0], [3, 1, 0, 0]],
-    ];
-    let goal = [[2, 2, 0, 1], [2, 2, 1, 0], [2, 3, 0, 1], [1, 3, 0, 2]];
-    file(memory, &[0, 0], &programs, 0, &goal)
 }
 
 /// Table bytes about whole slots, and buffers of few elements or none.
@@ -229,20 +171,7 @@ fn refused() -> Vec<Case> {
         links: 0,
         schedule: 0,
     };
-    let longer = [&at_the_limit()[..], &[0]].concat();
-    let jobs = [
-        vec![],
-        vec![0, 1, 2],
-        vec![0, 1, 1],
-        with_byte(&P1, 3, 3),
-        with_byte(&P1, 10, 10),
-        with_byte(&P1, 27, 2),
-        with_byte(&P1, 28, 5),
-        with_byte(&P1, 28, 3),
-        with_byte(&P1, 41, 4),
-        longer,
-    ];
-    let cases = jobs.into_iter().flat_map(|job| {
+    let cases = refused_jobs().into_iter().flat_map(|(job, _)| {
         [ROOM, none].map(|sizes| Case {
             sizes,
             job: job.clone(),

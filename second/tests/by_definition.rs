@@ -185,6 +185,15 @@ fn fence_checks_agree_with_all_walks() {
 }
 
 #[test]
+fn fence_run_cases_agree_with_all_walks() {
+    for bytes in second::fence_cases::all() {
+        if let Ok(job) = decode(&bytes) {
+            assert_eq!(fences(&bytes), expected_fences(&job), "{bytes:?}");
+        }
+    }
+}
+
+#[test]
 fn small_fence_cases() {
     let store = [5, 0, 0, 1];
     let load = [3, 0, 0, 0];
