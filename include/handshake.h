@@ -6,8 +6,16 @@
  * What is written (table, links, schedule of a search, answer) overlaps no other buffer of the call. What is only read may overlap.
  * Nothing is kept between calls and nothing is allocated, so threads may call at the same time on buffers of their own.
  *
- * answer is never NULL; its four words are set by every call. A refusal is 0, number, offset, 0 by the table of refusals, and then no
- * other buffer was written. */
+ * answer is never NULL; its four words are set by every call. A refusal is 0, number, offset, 0, and then no other buffer was written.
+ * The numbers, with the offset in the job, counted from 0 (docs/JOBS.md has the fields):
+ *   1  fewer than 3 bytes, more than 597, or length wrong: 0
+ *   2  version not 1: 2
+ *   3  model, C, T or V out of range: that byte
+ *   4  n above 32: that n; an instruction with a bad operation, operand or zero byte: its first byte
+ *   5  flag not 0 or 1, or K above 16: that byte; a bad clause: its first byte
+ *   6  a field, instruction or clause isn't wholly there: where it begins; bytes left over: the first of them
+ *   7  search only, no slot (N is 0): 0
+ * 1 is judged first, then the fields from the front, of each item first whether it is wholly there; the first fault wins. 7 comes last. */
 #ifndef HANDSHAKE_H
 #define HANDSHAKE_H
 

@@ -94,9 +94,12 @@ impl Comparison<'_> {
                 let ends = level_ends(&first.links.part()[..states as usize]);
                 rooms::about(&mut self.random, &ends)
             }
-            [_, slots, ..] => {
+            [3, slots, ..] => {
                 let ends = level_ends(&first.links.part()[..slots as usize]);
                 rooms::within(&mut self.random, &ends)
+            }
+            answer => {
+                panic!("the second checker's search of an accepted job answered {answer:?}")
             }
         };
         for room in more_rooms {

@@ -205,7 +205,7 @@ impl Tally {
             1..=4 => "1 to 4",
             5..=9 => "5 to 9",
             10..=19 => "10 to 19",
-            _ => "20 or more",
+            20.. => "20 or more",
         };
         self.count(DISTANCE, class);
     }
@@ -222,13 +222,11 @@ impl Tally {
     fn search(&mut self, [kind, first, second, _]: [u64; 4], model: Option<Model>) {
         self.count("calls", "search");
         let (class, states) = match kind {
+            0 => return self.count(REFUSED_SEARCHES, NUMBERS[first as usize]),
             1 => ("reachable", second),
             2 => ("unreachable", first),
             3 => ("unknown", first),
-            _ => {
-                let number = NUMBERS.get(first as usize).unwrap_or(&"none");
-                return self.count(REFUSED_SEARCHES, number);
-            }
+            4.. => panic!("{kind} is no kind of answer to a search"),
         };
         self.most_states = self.most_states.max(states);
         if let Some(model) = model {
@@ -239,10 +237,11 @@ impl Tally {
     fn replay(&mut self, [kind, first, ..]: [u64; 4], steps: usize) {
         self.count("calls", "replay");
         let class = match kind {
+            0 => "refused",
             1 => "reaches",
             2 => "falls short",
             3 => "stuck",
-            _ => "refused",
+            4.. => panic!("{kind} is no kind of answer to a replay"),
         };
         self.count(REPLAYS, class);
         let taken = if kind == 3 { first } else { steps as u64 };
@@ -257,9 +256,10 @@ impl Tally {
     fn fences(&mut self, [kind, ..]: [u64; 4]) {
         self.count("calls", "fence check");
         let class = match kind {
+            0 => "refused",
             1 => "FENCED",
             2 => "OPEN",
-            _ => "refused",
+            3.. => panic!("{kind} is no kind of answer to a fence check"),
         };
         self.count(FENCES, class);
     }

@@ -43,7 +43,8 @@ fn set_answer(call: &mut Call, words: [u64; 4]) {
 fn slots(call: &Call) -> usize {
     match call.words() {
         [1, _, states, _] | [2, states, ..] | [3, states, ..] => states as usize,
-        _ => 0,
+        [0, ..] => 0,
+        answer => panic!("the second checker answered {answer:?}"),
     }
 }
 

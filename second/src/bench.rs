@@ -43,15 +43,17 @@ fn search_lines(answer: [u64; 4], schedule: &[u8]) -> Vec<String> {
             to_hex(&schedule[..first as usize]),
         ],
         2 => vec![format!("UNREACHABLE {first}")],
-        _ => vec![format!("UNKNOWN {first}")],
+        3 => vec![format!("UNKNOWN {first}")],
+        0 | 4.. => panic!("the search of an accepted job answered {answer:?}"),
     }
 }
 
-fn fence_line([kind, thread, store, load]: [u64; 4]) -> String {
-    if kind == 1 {
-        "FENCED".to_string()
-    } else {
-        format!("OPEN {thread} {store} {load}")
+fn fence_line(answer: [u64; 4]) -> String {
+    let [kind, thread, store, load] = answer;
+    match kind {
+        1 => "FENCED".to_string(),
+        2 => format!("OPEN {thread} {store} {load}"),
+        0 | 3.. => panic!("the fence check of an accepted job answered {answer:?}"),
     }
 }
 

@@ -15,7 +15,8 @@ pub fn line(job: &[u8]) -> String {
     match fences(job) {
         [0, number, offset, _] => refused_line([number, offset]),
         [1, ..] => FENCED.to_string(),
-        [_, thread, store, load] => open(thread, store, load),
+        [2, thread, store, load] => open(thread, store, load),
+        answer => panic!("the fence check answered {answer:?}, which has no meaning"),
     }
 }
 

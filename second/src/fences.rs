@@ -56,11 +56,19 @@ fn exposed_places(program: &[Instruction], store: usize) -> BTreeSet<usize> {
 
 /// The end of a program has no place after it.
 fn places_after(program: &[Instruction], place: usize) -> Vec<usize> {
-    match program.get(place) {
-        None => vec![],
-        Some(Instruction::Jump { target }) => vec![*target],
-        Some(Instruction::JumpIfEqual { target, .. }) => vec![place + 1, *target],
-        Some(_) => vec![place + 1],
+    let Some(instruction) = program.get(place) else {
+        return vec![];
+    };
+    match *instruction {
+        Instruction::Jump { target } => vec![target],
+        Instruction::JumpIfEqual { target, .. } => vec![place + 1, target],
+        Instruction::Set { .. }
+        | Instruction::Add { .. }
+        | Instruction::Load { .. }
+        | Instruction::StoreRegister { .. }
+        | Instruction::StoreConstant { .. }
+        | Instruction::Fence
+        | Instruction::Exchange { .. } => vec![place + 1],
     }
 }
 

@@ -138,10 +138,12 @@ fn check_length(job: &[u8]) -> Result<(), Refusal> {
 }
 
 fn read_model(reader: &mut Reader) -> Result<Model, Refusal> {
-    match reader.ranged_byte(3, |model| model <= 2)? {
+    let (offset, bytes) = reader.item(1)?;
+    match bytes[0] {
         0 => Ok(Model::Sc),
         1 => Ok(Model::Tso),
-        _ => Ok(Model::Pso),
+        2 => Ok(Model::Pso),
+        3..=255 => Err(Refusal { number: 3, offset }),
     }
 }
 

@@ -215,7 +215,8 @@ fn limit_instruction(turn: u8) -> [u8; 4] {
         5 => [6, 0, 0, 0],
         6 => [7, 3, 7, 0],
         7 => [8, 3, 32, 255],
-        _ => [9, 0, 32, 0],
+        8 => [9, 0, 32, 0],
+        9..=255 => unreachable!("a remainder by 9 is below 9"),
     }
 }
 
@@ -223,6 +224,7 @@ fn limit_clause(turn: u8) -> [u8; 4] {
     match turn % 3 {
         0 => [1, 3, 0, 32],
         1 => [2, 3, 3, 255],
-        _ => [3, 7, 0, 255],
+        2 => [3, 7, 0, 255],
+        3..=255 => unreachable!("a remainder by 3 is below 3"),
     }
 }

@@ -194,7 +194,11 @@ fn must_wait(job: &Job, thread: &Thread, instruction: Instruction) -> bool {
             job.model != Model::Sc && thread.pending() >= job.capacity
         }
         Instruction::Fence | Instruction::Exchange { .. } => thread.pending() > 0,
-        _ => false,
+        Instruction::Set { .. }
+        | Instruction::Add { .. }
+        | Instruction::Load { .. }
+        | Instruction::JumpIfEqual { .. }
+        | Instruction::Jump { .. } => false,
     }
 }
 

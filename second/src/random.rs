@@ -198,8 +198,11 @@ fn goalless_draft(random: &mut Random, longest: bool) -> Draft {
 fn some_capacity(random: &mut Random, model: u8) -> u8 {
     match model {
         0 => 0,
-        _ if random.percent(70) => random.between(1, 3) as u8,
-        _ => random.between(1, 8) as u8,
+        1 | 2 => {
+            let most = if random.percent(70) { 3 } else { 8 };
+            random.between(1, most) as u8
+        }
+        3..=255 => panic!("{model} is no model"),
     }
 }
 
@@ -249,7 +252,8 @@ fn sound_instruction(random: &mut Random, count: usize, variables: usize) -> [u8
         5 => [5, 0, variable, value],
         6 => [6, 0, 0, 0],
         8 => [8, register, place, value],
-        op => [op, 0, place, 0],
+        9 => [9, 0, place, 0],
+        other => panic!("{other} is no operation"),
     }
 }
 
@@ -345,7 +349,8 @@ fn contradict_a_clause(random: &mut Random, draft: &Draft, clauses: &mut Vec<[u8
     let mut rival = clauses[random.below(clauses.len())];
     rival[3] = match rival[0] {
         1 => random.between(0, usize::from(draft.programs[usize::from(rival[1])].count)) as u8,
-        _ => some_value(random),
+        2 | 3 => some_value(random),
+        0 | 4..=255 => panic!("{rival:?} is no clause"),
     };
     clauses.insert(0, rival);
 }
@@ -596,7 +601,8 @@ fn around_the_count(random: &mut Random, job: &[u8]) -> usize {
     let count = match search(job, &mut table, &mut links, &mut schedule) {
         [1, _, states, _] => states as usize,
         [2, states, _, _] => states as usize,
-        _ => random.between(1, PROBE_SLOTS),
+        [0 | 3, ..] => random.between(1, PROBE_SLOTS),
+        answer => panic!("the search answered {answer:?}, which has no meaning"),
     };
     random.pick(&[count.saturating_sub(1), count, count, count + 1])
 }
@@ -658,7 +664,8 @@ pub fn found_schedule(job: &[u8]) -> Vec<u8> {
     let mut schedule = vec![0; PROBE_SLOTS];
     match search(job, &mut table, &mut links, &mut schedule) {
         [1, distance, _, _] => schedule[..distance as usize].to_vec(),
-        _ => Vec::new(),
+        [0 | 2 | 3, ..] => Vec::new(),
+        answer => panic!("the search answered {answer:?}, which has no meaning"),
     }
 }
 

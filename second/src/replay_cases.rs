@@ -29,7 +29,8 @@ pub fn line(case: &Case) -> String {
         [0, number, offset, _] => refused_line([number, offset]),
         [1, ..] => REACHES.to_string(),
         [2, ..] => FALLS_SHORT.to_string(),
-        [_, step, ..] => stuck_at(step as usize),
+        [3, step, ..] => stuck_at(step as usize),
+        answer => panic!("replay answered {answer:?}, which has no meaning"),
     }
 }
 

@@ -54,12 +54,14 @@ fn sum(elements: impl Iterator<Item = u64>) -> u64 {
     elements.fold(0, |sum, x| (sum * 31 + x) % 4_294_967_291)
 }
 
-fn answer_line([kind, first, second, _]: [u64; 4]) -> String {
+fn answer_line(answer: [u64; 4]) -> String {
+    let [kind, first, second, _] = answer;
     match kind {
         0 => format!("REFUSED {first} {second}"),
         1 => format!("REACHABLE {first} {second}"),
         2 => format!("UNREACHABLE {first}"),
-        _ => format!("UNKNOWN {first}"),
+        3 => format!("UNKNOWN {first}"),
+        4.. => panic!("the search answered {answer:?}, which has no meaning"),
     }
 }
 
@@ -97,7 +99,9 @@ fn count(job: &[u8]) -> usize {
     let mut schedule = vec![0; ROOM.schedule];
     match search(job, &mut table, &mut links, &mut schedule) {
         [1, _, states, _] | [2, states, _, _] => states as usize,
-        _ => ROOM.table / SLOT_BYTES,
+        // Nothing was counted to the end, so all the room is taken.
+        [0 | 3, ..] => ROOM.table / SLOT_BYTES,
+        answer => panic!("the search answered {answer:?}, which has no meaning"),
     }
 }
 

@@ -140,7 +140,13 @@ fn walk_ends(program: &[Instruction], store: usize) -> Vec<usize> {
                 match program[place] {
                     Instruction::Jump { target } => next.push(target),
                     Instruction::JumpIfEqual { target, .. } => next.extend([target, place + 1]),
-                    _ => next.push(place + 1),
+                    Instruction::Set { .. }
+                    | Instruction::Add { .. }
+                    | Instruction::Load { .. }
+                    | Instruction::StoreRegister { .. }
+                    | Instruction::StoreConstant { .. }
+                    | Instruction::Fence
+                    | Instruction::Exchange { .. } => next.push(place + 1),
                 }
             }
         }
@@ -160,7 +166,13 @@ fn expected_fences(job: &Job) -> [u64; 4] {
                 Instruction::StoreRegister { .. } | Instruction::StoreConstant { .. } => {
                     walk_ends(program, store)
                 }
-                _ => Vec::new(),
+                Instruction::Set { .. }
+                | Instruction::Add { .. }
+                | Instruction::Load { .. }
+                | Instruction::Fence
+                | Instruction::Exchange { .. }
+                | Instruction::JumpIfEqual { .. }
+                | Instruction::Jump { .. } => Vec::new(),
             };
             let is_load = |&place: &usize| matches!(program[place], Instruction::Load { .. });
             if let Some(load) = ends.into_iter().filter(is_load).min() {

@@ -143,11 +143,10 @@ fn print_fences(answer: fences::Answer) -> bool {
 }
 
 fn print_decision(release: bool) -> bool {
-    if release {
-        print(b"RELEASE\n")
-    } else {
-        print(b"HOLD\n")
-    }
+    let line = verdict::last_line(release);
+    let text = line.text;
+    let count = line.count;
+    print(&text[0..count])
 }
 
 fn answer(job: &[u8]) {

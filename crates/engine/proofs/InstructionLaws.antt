@@ -14,9 +14,9 @@ use Rattle.rules.specs.Step.{executed, execute}
 use Rattle.rules.specs.Sound.{InstrIn, JobIn}
 use Rattle.rules.specs.declared.Instr.{Instr}
 use Rattle.job.specs.Laid.{Laid, IsAccepted}
-use Rattle.job.specs.Passed.{instr-of}
-use Rattle.job.specs.declared.InstrRead.{InstrRead}
-use Rattle.job.specs.declared.InstrRead.the-variants.{Good, Bad}
+use Rattle.job.specs.Passed.{place-of}
+use Rattle.job.specs.declared.PlaceRead.{PlaceRead}
+use Rattle.job.specs.declared.PlaceRead.the-variants.{Holds, Ended}
 use Rattle.job.specs.declared.Layout.{Layout}
 use Rattle.machine.specs.InRange.{operands-ok, capacity-ok}
 use Rattle.machine.specs.Moves.{OperandsOk}
@@ -54,16 +54,16 @@ module _ {bytes : List ℕ} {l : Layout} (a : IsAccepted bytes l) where
   pub capacity-fits : l .capacity ≤ most-pending
   capacity-fits = rw (a .laid .capacity) (capacity-ok (a .job .model) (a .job .capacity) (a .in-range .capacity))
 
-  module _ (t p : ℕ) (r : InstrRead) (read : (j : Job) → Laid bytes l j → instr-of r ≡ instruction j t p) where
-    pub read-operands : (i : Instr) → r ≡ Good i → OperandsOk i
-    read-operands i e = instruction-operands (a .job) (a .in-range) t p i (sym (read (a .job) (a .laid)) ∙ ap instr-of e)
+  module _ (t p : ℕ) (r : PlaceRead) (read : (j : Job) → Laid bytes l j → place-of r ≡ instruction j t p) where
+    pub read-operands : (i : Instr) → r ≡ Holds i → OperandsOk i
+    read-operands i e = instruction-operands (a .job) (a .in-range) t p i (sym (read (a .job) (a .laid)) ∙ ap place-of e)
 
     module _ (x : states.State) (at : p ≡ states.place t x) where
-      executes-read : execute (a .job) t x ≡ andThen (instr-of r) (λ i. executed (l .model) (l .capacity) t i x)
+      executes-read : execute (a .job) t x ≡ andThen (place-of r) (λ i. executed (l .model) (l .capacity) t i x)
       executes-read = rw (execute-at (a .job) t x, ← at, ← read (a .job) (a .laid), a .laid .model, a .laid .capacity)
 
-      pub executes-good : (i : Instr) → r ≡ Good i → executed (l .model) (l .capacity) t i x ≡ execute (a .job) t x
-      executes-good i e = sym (executes-read ∙ ap (λ r. andThen (instr-of r) (λ i. executed (l .model) (l .capacity) t i x)) e)
+      pub executes-good : (i : Instr) → r ≡ Holds i → executed (l .model) (l .capacity) t i x ≡ execute (a .job) t x
+      executes-good i e = sym (executes-read ∙ ap (λ r. andThen (place-of r) (λ i. executed (l .model) (l .capacity) t i x)) e)
 
-      pub executes-none : r ≡ Bad → execute (a .job) t x ≡ none
-      executes-none e = executes-read ∙ ap (λ r. andThen (instr-of r) (λ i. executed (l .model) (l .capacity) t i x)) e
+      pub executes-none : r ≡ Ended → execute (a .job) t x ≡ none
+      executes-none e = executes-read ∙ ap (λ r. andThen (place-of r) (λ i. executed (l .model) (l .capacity) t i x)) e

@@ -1,8 +1,8 @@
 // The machine of a job: its start, the steps that may be taken, one step, and its goal.
 use buffer::Buf;
 use job::ClauseRead;
-use job::InstrRead;
 use job::Layout;
+use job::PlaceRead;
 use machine::Moved;
 use machine::State;
 use rules::Clause;
@@ -56,7 +56,7 @@ pub fn start(job: &[u8], l: Layout) -> State
     }
 }
 
-// One instruction of thread t; where none stands at its place, nothing moves.
+// One instruction of thread t; a thread that has ended has no step.
 fn execute(job: &[u8], l: Layout, s: State, t: u8) -> Moved
     requires { ⌜ At (now job) l s ⌝ }
     requires { ⌜ t < most-threads ⌝ }
@@ -67,8 +67,8 @@ fn execute(job: &[u8], l: Layout, s: State, t: u8) -> Moved
     let model = l.model;
     let capacity = l.capacity;
     match read {
-        InstrRead::Good(i) => machine::execute(i, model, capacity, s, t),
-        InstrRead::Bad => Moved {
+        PlaceRead::Holds(i) => machine::execute(i, model, capacity, s, t),
+        PlaceRead::Ended => Moved {
             moved: false,
             state: s,
         },
@@ -106,8 +106,8 @@ fn may_execute(job: &[u8], l: Layout, s: State, t: u8) -> bool
     let capacity = l.capacity;
     let own = machine::parts::buffer(s, t);
     match read {
-        InstrRead::Good(i) => machine::may_execute(i, model, capacity, own),
-        InstrRead::Bad => false,
+        PlaceRead::Holds(i) => machine::may_execute(i, model, capacity, own),
+        PlaceRead::Ended => false,
     }
 }
 
@@ -204,8 +204,9 @@ fn clauses_hold(job: &[u8], l: Layout, s: State) -> bool
                     return false;
                 }
             }
+            // There is one for each i below the count; if there weren't, a goal is the side to err on.
             ClauseRead::Bad => {
-                return false;
+                return true;
             }
         }
         i += 1;

@@ -17,9 +17,9 @@ use Rattle.rules.specs.Tests.{both, of-both}
 use Rattle.rules.specs.Fences.{onward, onward-at, successors, is-load, is-fence}
 use Rattle.rules.specs.declared.Instr.{Instr}
 use Rattle.job.specs.Laid.{Laid, IsAccepted}
-use Rattle.job.specs.Passed.{instr-of}
-use Rattle.job.specs.declared.InstrRead.{InstrRead}
-use Rattle.job.specs.declared.InstrRead.the-variants.{Good, Bad}
+use Rattle.job.specs.Passed.{place-of}
+use Rattle.job.specs.declared.PlaceRead.{PlaceRead}
+use Rattle.job.specs.declared.PlaceRead.the-variants.{Holds, Ended}
 use Rattle.job.specs.declared.Layout.{Layout}
 use Rattle.fences.specs.Places.{Joined, joined-one, GoesOn, MetLoad}
 
@@ -27,15 +27,15 @@ module _ {bytes : List ℕ} {l : Layout} (a : IsAccepted bytes l) {t : ℕ} (cod
   pub code-number : (n : ℕ) → ((j : Job) → Laid bytes l j → n ≡ length (getD (j .threads) t [])) → n ≡ length code
   code-number n h = h (a .job) (a .laid) ∙ ap length (at-getD (a .job .threads) t code [] is)
 
-  module _ {p : ℕ} (r : InstrRead) (read : (j : Job) → Laid bytes l j → instr-of r ≡ andThen (getElem? (j .threads) t) (λ code. getElem? code p)) where
-    read-at : instr-of r ≡ getElem? code p
+  module _ {p : ℕ} (r : PlaceRead) (read : (j : Job) → Laid bytes l j → place-of r ≡ andThen (getElem? (j .threads) t) (λ code. getElem? code p)) where
+    read-at : place-of r ≡ getElem? code p
     read-at = read (a .job) (a .laid) ∙ ap (λ o. andThen o (λ code. getElem? code p)) is
 
-    pub read-good : {i : Instr} → r ≡ Good i → getElem? code p ≡ some i
-    read-good e = sym read-at ∙ ap instr-of e
+    pub read-holds : {i : Instr} → r ≡ Holds i → getElem? code p ≡ some i
+    read-holds e = sym read-at ∙ ap place-of e
 
-    pub read-bad : r ≡ Bad → getElem? code p ≡ none
-    read-bad e = sym read-at ∙ ap instr-of e
+    pub read-ended : r ≡ Ended → getElem? code p ≡ none
+    read-ended e = sym read-at ∙ ap place-of e
 
 -- the successors by the instruction
 pub successors-as : (p : ℕ) {m r : ℕ} {i k : Instr} → i ≡ k → Joined (onward p k) m r → Joined (onward p i) m r

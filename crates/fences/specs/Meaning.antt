@@ -2,6 +2,7 @@
 use mathlib.Core.Path.{_≡_, refl, sym, _∙_, ap, subst}
 use mathlib.Core.List.{List, [], _∷_}
 use Prim.Native.Nat.{ℕ}
+use lib.ListN.{getD}
 use Rattle.rules.specs.Job.{Job}
 use Rattle.rules.specs.File.{Decoded, accepted, refused, decode}
 use Rattle.rules.specs.Fences as rules
@@ -51,3 +52,19 @@ fences-accepted bytes ws j e = subst (λ d. MeansOf d ws) (sym e)
 
 pub fences-refused : (bytes : List ℕ) (number offset : ℕ) → decode bytes ≡ refused number offset → FencesMean bytes (refusal-words number offset)
 fences-refused bytes number offset e = subst (λ d. MeansOf d (refusal-words number offset)) (sym e) refl
+
+-- The words tell the answers apart: from the words back to the case.
+case-of : List ℕ → Answer
+case-of ws =
+    let x = getD ws 1 0 in
+    let y = getD ws 2 0 in
+    getD (Refused x y ∷ Fenced ∷ []) (getD ws 0 0) (Open x y (getD ws 3 0))
+
+case-back : (a : Answer) → case-of (words a) ≡ a
+unfolding case-of
+case-back (Refused number offset) = refl
+case-back Fenced = refl
+case-back (Open t s l) = refl
+
+pub same-answer : (a b : Answer) → words a ≡ words b → a ≡ b
+same-answer a b e = sym (case-back a) ∙ ap case-of e ∙ case-back b

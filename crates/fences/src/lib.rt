@@ -1,7 +1,7 @@
 // Fence check: 01, "Replay and fence check". Any bytes as a job; nothing is written.
 use job::Decoded;
-use job::InstrRead;
 use job::Layout;
+use job::PlaceRead;
 use rules::Instr;
 ghost use mathlib.Core.Path.{_≡_};
 ghost use mathlib.Core.List.{List};
@@ -82,8 +82,8 @@ fn store_at(job: &[u8], l: Layout, t: u8, p: u8) -> bool
         ⌝ }
 {
     match job::parts::instruction_at(job, l, t, p) {
-        InstrRead::Good(i) => is_store(i),
-        InstrRead::Bad => false,
+        PlaceRead::Holds(i) => is_store(i),
+        PlaceRead::Ended => false,
     }
 }
 
@@ -96,8 +96,8 @@ fn load_at(job: &[u8], l: Layout, t: u8, p: u8) -> bool
         ⌝ }
 {
     match job::parts::instruction_at(job, l, t, p) {
-        InstrRead::Good(i) => is_load(i),
-        InstrRead::Bad => false,
+        PlaceRead::Holds(i) => is_load(i),
+        PlaceRead::Ended => false,
     }
 }
 
@@ -129,7 +129,7 @@ fn onward_from(job: &[u8], l: Layout, t: u8, store: u8, p: u8, met: u64) -> u64
         ⌝ }
 {
     match job::parts::instruction_at(job, l, t, p) {
-        InstrRead::Good(i) => {
+        PlaceRead::Holds(i) => {
             let goes_on = (p == store) | (bits::has(met, p) & !is_fence(i));
             if goes_on {
                 with_successors(met, p, i)
@@ -137,7 +137,7 @@ fn onward_from(job: &[u8], l: Layout, t: u8, store: u8, p: u8, met: u64) -> u64
                 met
             }
         }
-        InstrRead::Bad => met,
+        PlaceRead::Ended => met,
     }
 }
 

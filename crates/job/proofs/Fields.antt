@@ -74,11 +74,7 @@ pub field-missing : {A : Type 0} (bytes : List ℕ) (number : ℕ) (value : ℕ 
 unfolding field
 field-missing bytes number value at h = ap passed (item-missing bytes 1 number _ at (omega arith))
 
--- the models by their numbers, and the range of C under each
-pub model-low : (m : Model) → model-of 0 ≡ some m → m ≡ Sc
-unfolding model-of
-model-low m e = cc
-
+-- no number from 3 up is a model
 pub model-none : (k : ℕ) → 3 ≤ k → model-of k ≡ none
 unfolding model-of
 model-none zero h = absurd (omega arith)
@@ -86,12 +82,13 @@ model-none (suc zero) h = absurd (omega arith)
 model-none (suc (suc zero)) h = absurd (omega arith)
 model-none (suc (suc (suc k))) h = refl
 
-pub capacity-high : (k : ℕ) (m : Model) → ¬ (k ≡ 0) → model-of k ≡ some m → capacity-of m ≡ in-range 1 most-pending
-unfolding model-of capacity-of
-capacity-high zero m h e = absurd (h refl)
-capacity-high (suc zero) m h e = let d : m ≡ Tso = cc in rw d
-capacity-high (suc (suc zero)) m h e = let d : m ≡ Pso = cc in rw d
-capacity-high (suc (suc (suc k))) m h e = absurd (let z : _≡_ {A = ℕ} 0 1 = cc in omega arith)
+-- the range of C goes by the model
+pub capacity-same : (bytes : List ℕ) {m k : Model} → m ≡ k → passed (field bytes 3 (capacity-of m) 4) ≡ passed (field bytes 3 (capacity-of k) 4)
+capacity-same bytes d = rw d
+
+pub capacity-of-model : (bytes : List ℕ) (m k : Model) → some m ≡ some k →
+    passed (field bytes 3 (capacity-of m) 4) ≡ passed (field bytes 3 (capacity-of k) 4)
+capacity-of-model bytes m k e = capacity-same bytes cc
 
 module _ (bytes : List ℕ) (number low high at : ℕ) where
   pub field-there : at < length bytes →

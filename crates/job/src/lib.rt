@@ -66,6 +66,12 @@ pub enum InstrRead {
     Bad,
 }
 
+// What stands at a place of a thread: an instruction, or none, where the thread has ended.
+pub enum PlaceRead {
+    Holds(Instr),
+    Ended,
+}
+
 pub enum ClauseRead {
     Good(Clause),
     Bad,

@@ -3,6 +3,7 @@ use crate::ClauseRead;
 use crate::FIRST_VALUE;
 use crate::InstrRead;
 use crate::Layout;
+use crate::PlaceRead;
 use crate::goal;
 use crate::read;
 ghost use mathlib.Core.Path.{_≡_};
@@ -13,7 +14,7 @@ ghost use Rattle.reach.specs.System.{andThen};
 ghost use Rattle.rules.specs.Job.{Job};
 ghost use Rattle.rules.specs.declared.Instr as Declared;
 ghost use Rattle.job.specs.Laid.{code-at, Laid, IsAccepted};
-ghost use Rattle.job.specs.Passed.{instr-of, goal-clause-of};
+ghost use Rattle.job.specs.Passed.{place-of, goal-clause-of};
 ghost use Rattle.job.specs.Threads.{ThreadsLaid};
 
 fn code_start(l: Layout, t: u8) -> usize
@@ -56,20 +57,23 @@ pub fn code_length(job: &[u8], l: Layout, t: u8) -> u8
     thread_length(job, l, t)
 }
 
-// The instruction of thread t at place p, bad where there is none.
-pub fn instruction_at(job: &[u8], l: Layout, t: u8, p: u8) -> InstrRead
+// The instruction of thread t at place p.
+pub fn instruction_at(job: &[u8], l: Layout, t: u8, p: u8) -> PlaceRead
     requires { ⌜ IsAccepted (now job) l ⌝ }
     ensures { λ r. ⌜
-        ((j : Job) → Laid (now (job .entry)) l j → instr-of r ≡ andThen (getElem? (j .threads) t) (λ code. getElem? code p))
+        ((j : Job) → Laid (now (job .entry)) l j → place-of r ≡ andThen (getElem? (j .threads) t) (λ code. getElem? code p))
         ⌝ }
 {
     let n = code_length(job, l, t);
     let vars = l.vars;
     if n <= p {
-        return InstrRead::Bad;
+        return PlaceRead::Ended;
     }
     let at = code_start(l, t) + 4 * read::wide(p);
-    read::instruction_from(job, vars, n, at)
+    match read::instruction_from(job, vars, n, at) {
+        InstrRead::Good(i) => PlaceRead::Holds(i),
+        InstrRead::Bad => PlaceRead::Ended, // not of an accepted job, whose places before n all hold one
+    }
 }
 
 pub fn flag(job: &[u8], l: Layout) -> bool

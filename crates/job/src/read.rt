@@ -72,7 +72,18 @@ pub fn first(a: Next, b: Next) -> Next
     }
 }
 
-// C, whose range goes by the model before it.
+// C under a model.
+fn capacity_under(job: &[u8], m: Model) -> Next
+    ensures { λ r. ⌜ r ≡ passed (file.field (now (job .entry)) 3 (file.capacity-of m) 4) ⌝ }
+{
+    match m {
+        Model::Sc => field(job, 4, 3, 0, 0),
+        Model::Tso => field(job, 4, 3, 1, MOST_PENDING),
+        Model::Pso => field(job, 4, 3, 1, MOST_PENDING),
+    }
+}
+
+// C, whose range goes by the model before it; a byte that is no model is a fault before this one.
 fn capacity(job: &[u8]) -> Next
     ensures { λ r. ⌜
         ((m : Declared.Model) → file.model-of (getD (now (job .entry)) 3 0) ≡ some m → r ≡ passed (file.field (now (job .entry)) 3 (file.capacity-of m) 4))
@@ -81,10 +92,9 @@ fn capacity(job: &[u8]) -> Next
     if job.len() <= 3 {
         return Next::Fault(6, 4);
     }
-    if job[3] == 0 {
-        field(job, 4, 3, 0, 0)
-    } else {
-        field(job, 4, 3, 1, MOST_PENDING)
+    match model(job[3]) {
+        ModelRead::Good(m) => capacity_under(job, m),
+        ModelRead::Bad => Next::Fault(3, 3),
     }
 }
 

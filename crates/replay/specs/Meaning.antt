@@ -2,6 +2,7 @@
 use mathlib.Core.Path.{_≡_, refl, sym, _∙_, ap, subst}
 use mathlib.Core.List.{List, [], _∷_}
 use Prim.Native.Nat.{ℕ}
+use lib.ListN.{getD}
 use Rattle.reach.specs.Replay as reach
 use Rattle.reach.specs.Meaning.{IsReachable, Outcome}
 use Rattle.rules.specs.State.{State}
@@ -58,3 +59,19 @@ found-reaches bytes j e N d n o h ws r =
     replay-once bytes (o .schedule) ws (replayed-words reach.reaches) r
     (subst (λ z. MeansOf z (o .schedule) (replayed-words reach.reaches)) (sym e)
     (record { replayed = reach.reaches; means = reach.found-replays (machine j) N d n o h; answer = refl }))
+
+-- The words tell the answers apart: from the words back to the case.
+case-of : List ℕ → Answer
+case-of ws =
+    let x = getD ws 1 0 in
+    getD (Refused x (getD ws 2 0) ∷ Reaches ∷ FallsShort ∷ []) (getD ws 0 0) (Stuck x)
+
+case-back : (a : Answer) → case-of (words a) ≡ a
+unfolding case-of
+case-back (Refused number offset) = refl
+case-back Reaches = refl
+case-back FallsShort = refl
+case-back (Stuck i) = refl
+
+pub same-answer : (a b : Answer) → words a ≡ words b → a ≡ b
+same-answer a b e = sym (case-back a) ∙ ap case-of e ∙ case-back b

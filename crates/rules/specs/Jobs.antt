@@ -176,6 +176,28 @@ exchange-between =
     ∷ 0x00 ∷ 0x00
     ∷ []
 
+-- PSO, C 2: x=1, x=2; goal place 2, x = 1, buffers empty
+unfoldable pub oldest-first : List ℕ
+oldest-first =
+    -- length 25, version 1, PSO, C 2, 1 thread, 1 variable, 0
+    0x00 ∷ 0x19 ∷ 0x01 ∷ 0x02 ∷ 0x02 ∷ 0x01 ∷ 0x01 ∷ 0x00
+    -- x=1, x=2
+    ∷ 0x02 ∷ 0x05 ∷ 0x00 ∷ 0x00 ∷ 0x01 ∷ 0x05 ∷ 0x00 ∷ 0x00 ∷ 0x02
+    -- empty buffers, 2 clauses
+    ∷ 0x01 ∷ 0x02 ∷ 0x01 ∷ 0x00 ∷ 0x00 ∷ 0x02 ∷ 0x03 ∷ 0x00 ∷ 0x00 ∷ 0x01
+    ∷ []
+
+-- SC: SET register 0 to 9, STORE register 0 to x; goal x = 9
+unfoldable pub stored-register : List ℕ
+stored-register =
+    -- length 21, version 1, SC, C 0, 1 thread, 1 variable, 0
+    0x00 ∷ 0x15 ∷ 0x01 ∷ 0x00 ∷ 0x00 ∷ 0x01 ∷ 0x01 ∷ 0x00
+    -- SET, STORE
+    ∷ 0x02 ∷ 0x01 ∷ 0x00 ∷ 0x00 ∷ 0x09 ∷ 0x04 ∷ 0x00 ∷ 0x00 ∷ 0x00
+    -- any buffers, 1 clause
+    ∷ 0x00 ∷ 0x01 ∷ 0x03 ∷ 0x00 ∷ 0x00 ∷ 0x09
+    ∷ []
+
 -- P1 cut within its first instruction, and the same with an unknown operation there
 unfoldable pub cut : List ℕ
 cut = set (take 11 p1) 1 9

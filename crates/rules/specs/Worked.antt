@@ -1,12 +1,12 @@
 -- The worked cases of 01's bench list, as one table under one statement about the definitions.
 use mathlib.Core.Path.{_≡_, refl, sym, ap, subst}
 use mathlib.Core.Bool.{Bool, true, false, _&&_}
-use mathlib.Core.List.{List, [], _∷_}
+use mathlib.Core.List.{List, [], _∷_, _++_}
 use mathlib.Core.Option.{Option, none, some}
 use Prim.Native.Nat.{ℕ, suc, _≤_}
 use native.Mathlib.Omega.{arith}
 use lib.Dec.{T, eqb, leb, eqb→eq, leb→le}
-use lib.ListN.{length, set}
+use lib.ListN.{length, set, replicate}
 use Rattle.reach.specs.Lists.{All}
 use Rattle.reach.specs.System.{System}
 use Rattle.reach.specs.Meaning.{LeadsTo, AtMost, Reached, Counts, Answer, reachable, unreachable, unknown, Outcome, MeansAt}
@@ -15,6 +15,8 @@ use Rattle.reach.specs.Rows.{outcome, by-goal, by-rest, by-room, levels, find}
 use Rattle.reach.specs.Found.{find-means}
 use Rattle.reach.specs.Promise.{Brings, brings, never, Outnumber, unknown-exactly}
 use Rattle.reach.specs.Replay.{Replayed, reaches, falls-short, stuck, ReplayMeans, at-end, replay-from, replay, replay-means}
+use Rattle.rules.specs.Limits.{longest-file, slot-size, step-bound, most-slots}
+use Rattle.rules.specs.Slot.{pair-bytes, buffer-bytes, buffers-bytes, slot-bytes}
 use Rattle.rules.specs.State.{State, place, register, variable, buffer, with-place, with-register, with-variable, with-buffer}
 use Rattle.rules.specs.State.{same-list, same-pending, same-state}
 use Rattle.rules.specs.Job.{Job, start}
@@ -25,7 +27,7 @@ use Rattle.rules.specs.File.{after, _>>=_, done, times, judged, byte, it
 use Rattle.rules.specs.File.{instruction-of, instruction, thread, flag-of, clause-of, clause, ended, fields, length-ok}
 use Rattle.rules.specs.File.{Decoded, accepted, refused, verdict, decode}
 use Rattle.rules.specs.Tests.{both, three}
-use Rattle.rules.specs.Jobs.{p1, p2, p3, p4, p5, p6, p7, p8, p9, p10, p12, own-newest, fence-waits, exchange, jump-over, either-order, exchange-between, cut, cut-unknown, left-over}
+use Rattle.rules.specs.Jobs.{p1, p2, p3, p4, p5, p6, p7, p8, p9, p10, p12, own-newest, fence-waits, exchange, jump-over, either-order, oldest-first, stored-register, exchange-between, cut, cut-unknown, left-over}
 use Rattle.rules.specs.Machine.{machine, same-list-equal}
 use Rattle.rules.specs.Fences.{onward, onward-at, successors, is-store, is-load, is-fence, Fenced, fenced, open-at, FenceMeans}
 use Rattle.rules.specs.FenceCheck.{move, targets-below, landings, found, leads, or-else, first-below, open-test, open-loads, open-stores}
@@ -96,7 +98,19 @@ table =
     ∷ case 640 exchange (search-reaches 5 (0x00 ∷ 0x00 ∷ 0x04 ∷ 0x00 ∷ []))
     ∷ case 640 jump-over (search-reaches 3 (0x00 ∷ 0x00 ∷ []))
     ∷ case 640 either-order (search-never (some 59))
+    ∷ case 640 oldest-first (search-never (some 6))
+    ∷ case 640 stored-register (search-reaches 3 (0x00 ∷ 0x00 ∷ []))
     ∷ case 640 exchange-between (fences-say fenced)
+    -- operation 0 is none; model, C, T and V out of range; a flag and a clause that are none
+    ∷ case 640 (set p1 10 0x00) (refuses 4 10)
+    ∷ case 640 (set p1 3 0x03) (refuses 3 3)
+    ∷ case 640 (set p1 4 0x09) (refuses 3 4)
+    ∷ case 640 (set p2 4 0x01) (refuses 3 4)
+    ∷ case 640 (set p1 5 0x05) (refuses 3 5)
+    ∷ case 640 (set p1 6 0x00) (refuses 3 6)
+    ∷ case 640 (set p1 27 0x02) (refuses 5 27)
+    ∷ case 640 (set p1 28 0x11) (refuses 5 28)
+    ∷ case 640 (set p1 29 0x04) (refuses 5 29)
     -- an item that is not wholly there is refused as such, whatever it holds
     ∷ case 640 cut (refuses 6 10)
     ∷ case 640 cut-unknown (refuses 6 10)
@@ -303,9 +317,27 @@ all-right (c ∷ l) t =
     (decoded-right (c .slots) (c .claim) (decode (c .bytes)) (p .0), all-right l (p .1))
 
 computed : T (every case-test table)
-unfolding every case-test table p1 p2 p3 p4 p5 p6 p7 p8 p9 p10 p12 own-newest fence-waits exchange jump-over either-order exchange-between cut cut-unknown left-over decoded-test claim-test refusal-test answer-reaches answer-never answer-unknown same-fenced same-replayed place register variable buffer with-place with-register with-variable with-buffer same-list same-pending same-state start newest by-variable joined take-oldest behind take-oldest-to taken is-empty advanced carried buffered stored executed execute flush next clause-holds goal start-row offer-of offer offers-below offers known goal-row keep keep-new put-unless put put-all outcome by-goal by-rest by-room levels find decode after _>>=_ done times judged byte item field model-of in-range capacity-of register-ok zero-ok instruction-of instruction thread flag-of clause-of clause ended fields length-ok verdict onward onward-at successors is-store is-load is-fence move targets-below landings found leads or-else first-below open-test open-loads open-stores open-threads fence-answer fence-check at-end replay-from replay
+unfolding every case-test table p1 p2 p3 p4 p5 p6 p7 p8 p9 p10 p12 own-newest fence-waits exchange jump-over either-order oldest-first stored-register exchange-between cut cut-unknown left-over decoded-test claim-test refusal-test answer-reaches answer-never answer-unknown same-fenced same-replayed place register variable buffer with-place with-register with-variable with-buffer same-list same-pending same-state start newest by-variable joined take-oldest behind take-oldest-to taken is-empty advanced carried buffered stored executed execute flush next clause-holds goal start-row offer-of offer offers-below offers known goal-row keep keep-new put-unless put put-all outcome by-goal by-rest by-room levels find decode after _>>=_ done times judged byte item field model-of in-range capacity-of register-ok zero-ok instruction-of instruction thread flag-of clause-of clause ended fields length-ok verdict onward onward-at successors is-store is-load is-fence move targets-below landings found leads or-else first-below open-test open-loads open-stores open-threads fence-answer fence-check at-end replay-from replay
 computed = tt
 
 -- every case of the table holds
 pub worked : All CaseHolds table
 worked = all-right table computed
+
+-- The numbers that 01 says outright, and a slot: P1 after its first step, thread 0's store of 1 to x pending.
+
+pub numbers-are : (longest-file ≡ 597) × (slot-size ≡ 96) × (step-bound ≡ 36) × (most-slots ≡ 65536)
+numbers-are = (refl, refl, refl, refl)
+
+unfoldable pub one-pending : State
+one-pending =
+    record {
+      places = 1 ∷ 0 ∷ 0 ∷ 0 ∷ [];
+      registers = replicate 16 0;
+      memory = replicate 8 0;
+      buffers = (record { variable = 0; value = 1 } ∷ []) ∷ [] ∷ [] ∷ [] ∷ [];
+    }
+
+pub slot-is : slot-bytes one-pending ≡ (1 ∷ 0 ∷ 0 ∷ 0 ∷ []) ++ replicate 16 0 ++ replicate 8 0 ++ (1 ∷ 0 ∷ 1 ∷ []) ++ replicate 14 0 ++ replicate 51 0
+unfolding one-pending slot-bytes buffers-bytes buffer-bytes pair-bytes
+slot-is = refl

@@ -1,8 +1,8 @@
 -- What a search answers, and what the three lent buffers then hold, for every input: 01, "Search" and "Refusal numbers and their order".
-use mathlib.Core.Path.{_≡_}
+use mathlib.Core.Path.{_≡_, refl, sym, _∙_, ap}
 use mathlib.Core.List.{List, [], _∷_, _++_}
 use Prim.Native.Nat.{ℕ, zero, suc, _*_, _/_, min}
-use lib.ListN.{length, drop}
+use lib.ListN.{length, getD, drop}
 use Rattle.reach.specs.Meaning as reach
 use Rattle.reach.specs.Stored.{slots-bytes}
 use Rattle.rules.specs.Limits.{slot-size, most-slots}
@@ -72,3 +72,20 @@ MeansOf (refused number offset) m ws m′ = IsRefused number offset m ws m′
 -- the whole promise: job, buffers before, answer, buffers after
 abbrev pub SearchMeans : List ℕ → Lent → List ℕ → Lent → Type 0
 SearchMeans bytes m ws m′ = MeansOf (decode bytes) m ws m′
+
+-- The words tell the answers apart: from the words back to the case.
+case-of : List ℕ → Answer
+case-of ws =
+    let x = getD ws 1 0 in
+    let y = getD ws 2 0 in
+    getD (Refused x y ∷ Reachable x y ∷ Unreachable x ∷ []) (getD ws 0 0) (Unknown x)
+
+case-back : (a : Answer) → case-of (words a) ≡ a
+unfolding case-of
+case-back (Refused number offset) = refl
+case-back (Reachable d states) = refl
+case-back (Unreachable states) = refl
+case-back (Unknown slots) = refl
+
+pub same-answer : (a b : Answer) → words a ≡ words b → a ≡ b
+same-answer a b e = sym (case-back a) ∙ ap case-of e ∙ case-back b

@@ -1,10 +1,13 @@
 -- From the four words that a search or a fence check answers back to what they mean.
-use mathlib.Core.Path.{_≡_, sym, ap, subst}
+use mathlib.Core.Path.{_≡_, sym, _∙_, ap, subst}
+use mathlib.Core.Logic.{_↔_}
 use mathlib.Core.List.{List, [], _∷_}
 use Prim.Native.Nat.{ℕ, zero, suc}
 use native.Mathlib.Omega.{arith}
 use lib.ListN.{getD}
 use Rattle.reach.specs.Meaning.{Answer, reachable, unreachable, unknown, Outcome, MeansAt, IsReachable, IsUnreachable}
+use Rattle.reach.specs.Promise as reach-promise
+use Rattle.reach.specs.Promise.{Outnumber}
 use Rattle.rules.specs.State.{State}
 use Rattle.rules.specs.Job.{Job}
 use Rattle.rules.specs.File.{accepted, decode}
@@ -78,6 +81,20 @@ module _ (bytes : List ℕ) (j : Job) (is : decode bytes ≡ accepted j) (m m′
             outcome = k .outcome;
             means = unreachable-of j (suc N) (k .outcome) n (k .outcome .answer) (k .means) (k .answer);
           }
+
+-- "Unknown" is answered exactly when the states up to the goal's distance, or all states if no goal can be reached, outnumber the slots
+module _ (bytes : List ℕ) (j : Job) (is : decode bytes ≡ accepted j) (m m′ : Lent) (ws : List ℕ) (N : ℕ) (slots : slots-lent m ≡ suc N) where
+  unknown-of : (a : Answer) → answer-words a ≡ answer-words (unknown (suc N)) → a ≡ unknown (suc N)
+  unfolding word
+  unknown-of (reachable d n) e = absurd (let f : 1 ≡ 3 = ap (word 0) e in omega arith)
+  unknown-of (unreachable n) e = absurd (let f : 2 ≡ 3 = ap (word 0) e in omega arith)
+  unknown-of (unknown n) e = ap {B = Answer} unknown (ap (word 1) e)
+
+  pub unknown-exactly : SearchMeans bytes m ws m′ → (ws ≡ answer-words (unknown (suc N))) ↔ Outnumber (machine j) (suc N)
+  unknown-exactly h =
+      let k : MeansWith j (suc N) m ws m′ = subst (λ n. MeansWith j n m ws m′) slots (subst (λ z. MeansOf z m ws m′) is h) in
+      let exactly = reach-promise.unknown-exactly (machine j) (suc N) (k .outcome) (k .means) in
+      (λ e. exactly .0 (unknown-of (k .outcome .answer) (sym (k .answer) ∙ e)), λ o. k .answer ∙ ap answer-words (exactly .1 o))
 
 abbrev pub fenced-words : List ℕ
 fenced-words = fences.checked-words fenced

@@ -1,13 +1,15 @@
 -- Search SC, sign for TSO: the third demand about the answers that the searches give, whatever memory was lent to each.
 use mathlib.Core.Path.{_≡_, sym, _∙_, ap, subst}
+use mathlib.Core.Logic.{_↔_}
 use mathlib.Core.Bool.{true}
 use mathlib.Core.List.{List}
 use Prim.Native.Nat.{ℕ, _≤_, _<_}
 use native.Mathlib.Omega.{arith}
 use lib.ListN.{getElem?}
 use Rattle.reach.specs.Lists.{All}
-use Rattle.reach.specs.Meaning.{NoGoal}
+use Rattle.reach.specs.Meaning.{Reached, NoGoal}
 use Rattle.rules.specs.Limits.{values}
+use Rattle.rules.specs.State.{State}
 use Rattle.rules.specs.Job.{Job}
 use Rattle.rules.specs.File.{accepted, decode}
 use Rattle.rules.specs.Machine.{machine}
@@ -16,7 +18,7 @@ use Rattle.fences.specs.Meaning.{MeansFor, MeansOf, FencesMean, fences-accepted
 use Rattle.rules.specs.Accepted.{accepted-in}
 use Rattle.rules.specs.Sound.{JobIn}
 use Rattle.rules.specs.declared.Model.the-variants.{Sc, Tso}
-use Rattle.signed.specs.Under.{under, under-sc}
+use Rattle.signed.specs.Under.{under, under-sc, AllEmpty}
 use Rattle.signed.specs.Signed as signed
 use Rattle.search.specs.Meaning.{Lent, SearchMeans}
 use Rattle.together.specs.Answered.{reachable-words, unreachable-words, FoundIn, RuledOutIn, fenced-words, found, ruled-out, passed}
@@ -55,7 +57,7 @@ checked-alike one other i j p q e ws h =
     let k : MeansFor i ws = subst (λ z. MeansOf z ws) p h in
     fences-accepted other ws j q (record { checked = k .checked; means = means-alike i j e (k .checked) (k .means); answer = k .answer })
 
-module _ (sc tso : List ℕ) (j : Job) (c : ℕ) (files : OfOneJob sc tso j c) (check : FencesMean sc fenced-words) (flag : j .all-empty ≡ true) where
+module _ (sc tso : List ℕ) (j : Job) (c : ℕ) (files : OfOneJob sc tso j c) (check : FencesMean sc fenced-words) where
   passes : FenceMeans j fenced
   passes = passed sc j (files .sc-is) check
 
@@ -68,23 +70,28 @@ module _ (sc tso : List ℕ) (j : Job) (c : ℕ) (files : OfOneJob sc tso j c) (
   as-it-stands : under Sc 0 j ≡ j
   as-it-stands = under-sc j ok (files .says-sc)
 
+  -- a state with every buffer empty is reached under TSO exactly when it is under SC
+  pub reached-alike : (x : State) → AllEmpty x → Reached (machine (under Tso c j)) x ↔ Reached (machine j) x
+  reached-alike x empty = subst (λ z. Reached (machine (under Tso c j)) x ↔ Reached (machine z) x) as-it-stands (signed.signed j ok passes c room x empty)
+
+module _ (sc tso : List ℕ) (j : Job) (c : ℕ) (files : OfOneJob sc tso j c) (check : FencesMean sc fenced-words) (flag : j .all-empty ≡ true) where
   -- SC searched and found unreachable: no schedule of any length reaches a goal under TSO, at the capacity that the second file says
   pub sign-for-tso : (m m′ : Lent) (n : ℕ) → SearchMeans sc m (unreachable-words n) m′ → NoGoal (machine (under Tso c j))
   sign-for-tso m m′ n h =
       let r = ruled-out sc j (files .sc-is) m m′ n h in
-      signed.no-goal-alike j ok passes flag c room .1 (subst (λ z. NoGoal (machine z)) (sym as-it-stands) (r .means .no-goal))
+      signed.no-goal-alike j (ok sc tso j c files check) (passes sc tso j c files check) flag c (room sc tso j c files check) .1 (subst (λ z. NoGoal (machine z)) (sym (as-it-stands sc tso j c files check)) (r .means .no-goal))
 
   -- the two searches never contradict each other
   pub never-contradict : (m m′ l l′ : Lent) (d n k : ℕ)
       → SearchMeans tso m (reachable-words d n) m′ → SearchMeans sc l (unreachable-words k) l′ → ⊥
   never-contradict m m′ l l′ d n k h u =
       let f = found tso (under Tso c j) (files .tso-is) m m′ d n h in
-      let r = subst (λ z. RuledOutIn z k) (sym as-it-stands) (ruled-out sc j (files .sc-is) l l′ k u) in
-      signed.never-contradict j ok passes flag c room (f .slots) (r .slots) d n k (f .outcome) (r .outcome) (f .means) (r .means)
+      let r = subst (λ z. RuledOutIn z k) (sym (as-it-stands sc tso j c files check)) (ruled-out sc j (files .sc-is) l l′ k u) in
+      signed.never-contradict j (ok sc tso j c files check) (passes sc tso j c files check) flag c (room sc tso j c files check) (f .slots) (r .slots) d n k (f .outcome) (r .outcome) (f .means) (r .means)
 
   pub never-contradict-back : (m m′ l l′ : Lent) (d n k : ℕ)
       → SearchMeans sc m (reachable-words d n) m′ → SearchMeans tso l (unreachable-words k) l′ → ⊥
   never-contradict-back m m′ l l′ d n k h u =
-      let f = subst (λ z. FoundIn z d n m m′) (sym as-it-stands) (found sc j (files .sc-is) m m′ d n h) in
+      let f = subst (λ z. FoundIn z d n m m′) (sym (as-it-stands sc tso j c files check)) (found sc j (files .sc-is) m m′ d n h) in
       let r = ruled-out tso (under Tso c j) (files .tso-is) l l′ k u in
-      signed.never-contradict-back j ok passes flag c room (f .slots) (r .slots) d n k (f .outcome) (r .outcome) (f .means) (r .means)
+      signed.never-contradict-back j (ok sc tso j c files check) (passes sc tso j c files check) flag c (room sc tso j c files check) (f .slots) (r .slots) d n k (f .outcome) (r .outcome) (f .means) (r .means)

@@ -1,9 +1,10 @@
 -- Which of RELEASE and HOLD is said, for every input: 01, "Bench program".
 use mathlib.Core.Path.{_≡_}
-use mathlib.Core.Bool.{true}
+use mathlib.Core.Bool.{Bool, true, false}
 use mathlib.Core.Logic.{_↔_}
-use mathlib.Core.List.{List}
-use Prim.Native.Nat.{ℕ}
+use mathlib.Core.List.{List, [], _∷_}
+use Prim.Native.Nat.{ℕ, _≤_}
+use lib.ListN.{length, take}
 use Rattle.reach.specs.Meaning.{unreachable}
 use Rattle.rules.specs.Job.{Job}
 use Rattle.rules.specs.File.{accepted, decode}
@@ -12,6 +13,7 @@ use Rattle.rules.specs.declared.Model.the-variants.{Sc}
 use Rattle.search.specs.Meaning as search
 use Rattle.fences.specs.Meaning as fences
 use Rattle.verdict.specs.declared.Verdict.{Verdict}
+use Rattle.verdict.specs.declared.Line.{Line}
 
 -- "under SC only if the flag is 1 and the program FENCED"
 abbrev pub ScAsks : Job → List ℕ → Type 0
@@ -31,3 +33,13 @@ pub record VerdictMeans (bytes : List ℕ) (m : search.Lent) (v : Verdict) (m′
   pub searched : search.SearchMeans bytes m (search.words (v .search)) m′
   pub checked : fences.FencesMean bytes (fences.words (v .fences))
   pub releases : (v .release ≡ true) ↔ MayRelease bytes (search.words (v .search)) (fences.words (v .fences))
+
+-- the last line of the bench program, in bytes: RELEASE, or HOLD, and the line's end
+abbrev pub line-of : Bool → List ℕ
+line-of true = 82 ∷ 69 ∷ 76 ∷ 69 ∷ 65 ∷ 83 ∷ 69 ∷ 10 ∷ []
+line-of false = 72 ∷ 79 ∷ 76 ∷ 68 ∷ 10 ∷ []
+
+-- the first bytes of the text are the line, and nothing is said of what is behind them
+pub record Spells (r : Line) (l : List ℕ) : Type 0 where
+  pub is : take (r .count) (r .text) ≡ l
+  pub inside : r .count ≤ length (r .text)

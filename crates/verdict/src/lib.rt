@@ -9,7 +9,7 @@ ghost use Rattle.rules.specs.Fences.{fenced};
 ghost use Rattle.job.specs.Laid.{IsAccepted};
 ghost use Rattle.search.specs.Meaning as search-meaning;
 ghost use Rattle.fences.specs.Meaning as fences-meaning;
-ghost use Rattle.verdict.specs.Meaning.{ScAsks, MayRelease, VerdictMeans};
+ghost use Rattle.verdict.specs.Meaning.{ScAsks, MayRelease, VerdictMeans, line-of, Spells};
 ghost use Rattle.verdict.specs.Released.{Released};
 
 // The answers of the search and of the fence check, and whether they allow the release.
@@ -17,6 +17,29 @@ pub struct Verdict {
     pub search: search::Answer,
     pub fences: fences::Answer,
     pub release: bool,
+}
+
+// The verdict's line: so many bytes of the text.
+pub struct Line {
+    pub text: [u8; 8],
+    pub count: usize,
+}
+
+// RELEASE or HOLD as it is printed, with the line's end.
+pub fn last_line(release: bool) -> Line
+    ensures { λ r. ⌜ Spells r (line-of release) ⌝ }
+{
+    if release {
+        Line {
+            text: [82, 69, 76, 69, 65, 83, 69, 10],
+            count: 8,
+        }
+    } else {
+        Line {
+            text: [72, 79, 76, 68, 10, 0, 0, 0],
+            count: 5,
+        }
+    }
 }
 
 fn is_fenced(checked: fences::Answer) -> bool

@@ -2,7 +2,7 @@
 use mathlib.Core.Path.{sym, _∙_, ap}
 use borrow.Author.Needs.{needs}
 use Rattle.rules.specs.Fences.{is-load}
-use Rattle.fences.proofs.ReadLaws.{read-good, read-bad}
+use Rattle.fences.proofs.ReadLaws.{read-holds, read-ended}
 use Rattle.fences.proofs.load_at.Statement.{statement}
 use Rattle.fences.proofs.load_at.Tie as tie
 
@@ -22,11 +22,11 @@ returns : tie.Need-returns
 returns c =
     λ a code is.
     c .is-load .ensures
-    ∙ ap is-load (sym (read-good a code is _ (c .before .before .before .before .instruction-at .ensures) (c .before .before .i .given .1)))
+    ∙ ap is-load (sym (read-holds a code is _ (c .before .before .before .before .instruction-at .ensures) (c .before .before .i .given .1)))
 
 returns-2 : tie.Need-returns-2
 unfolding is-load
-returns-2 c = λ a code is. ap is-load (sym (read-bad a code is _ (c .before .before .instruction-at .ensures) (c .enum-told .given .1)))
+returns-2 c = λ a code is. ap is-load (sym (read-ended a code is _ (c .before .before .instruction-at .ensures) (c .enum-told .given .1)))
 
 pub load-at-spec : {M : Type 1} → statement M
 load-at-spec =

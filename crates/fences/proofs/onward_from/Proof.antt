@@ -3,7 +3,7 @@ use mathlib.Core.Path.{sym, _∙_, ap}
 use borrow.Author.Needs.{needs}
 use Rattle.rules.specs.Fences.{is-fence}
 use Rattle.fences.specs.Places.{grown-on, grown-not, grown-end, move-to}
-use Rattle.fences.proofs.ReadLaws.{read-good, read-bad, successors-at, goes-on, goes-not}
+use Rattle.fences.proofs.ReadLaws.{read-holds, read-ended, successors-at, goes-on, goes-not}
 use Rattle.fences.proofs.onward_from.Statement.{statement}
 use Rattle.fences.proofs.onward_from.Tie as tie
 
@@ -28,7 +28,7 @@ enum-told c = search needs
 returns : tie.Need-returns
 returns c =
     λ a code is.
-    let at = read-good a code is _ (c .before .before .before .before .before .before .before .instruction-at .ensures) (c .before .before .before .before .before .i .given .1) in
+    let at = read-holds a code is _ (c .before .before .before .before .before .before .before .instruction-at .ensures) (c .before .before .before .before .before .i .given .1) in
     grown-on code _ _ _ _
     (goes-on code _ _ _ _ _ (c .before .before .before .has .ensures) (c .before .before .is-fence .ensures ∙ ap is-fence (sym at)) (c .before .if1 .taken))
     (successors-at code _ _ _ _ at (c .with-successors .ensures))
@@ -37,12 +37,12 @@ returns c =
 returns-2 : tie.Need-returns-2
 returns-2 c =
     λ a code is.
-    let at = read-good a code is _ (c .before .before .before .before .before .before .instruction-at .ensures) (c .before .before .before .before .i .given .1) in
+    let at = read-holds a code is _ (c .before .before .before .before .before .before .instruction-at .ensures) (c .before .before .before .before .i .given .1) in
     grown-not code _ _ _
     (goes-not code _ _ _ _ _ (c .before .before .has .ensures) (c .before .is-fence .ensures ∙ ap is-fence (sym at)) (c .if1 .left))
 
 returns-3 : tie.Need-returns-3
-returns-3 c = λ a code is. grown-end code _ _ _ (read-bad a code is _ (c .before .before .instruction-at .ensures) (c .enum-told .given .1))
+returns-3 c = λ a code is. grown-end code _ _ _ (read-ended a code is _ (c .before .before .instruction-at .ensures) (c .enum-told .given .1))
 
 pub onward-from-spec : {M : Type 1} → statement M
 onward-from-spec =

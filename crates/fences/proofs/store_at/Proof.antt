@@ -2,7 +2,7 @@
 use mathlib.Core.Path.{sym, _∙_, ap}
 use borrow.Author.Needs.{needs}
 use Rattle.rules.specs.Fences.{is-store}
-use Rattle.fences.proofs.ReadLaws.{read-good, read-bad}
+use Rattle.fences.proofs.ReadLaws.{read-holds, read-ended}
 use Rattle.fences.proofs.store_at.Statement.{statement}
 use Rattle.fences.proofs.store_at.Tie as tie
 
@@ -22,11 +22,11 @@ returns : tie.Need-returns
 returns c =
     λ a code is.
     c .is-store .ensures
-    ∙ ap is-store (sym (read-good a code is _ (c .before .before .before .before .instruction-at .ensures) (c .before .before .i .given .1)))
+    ∙ ap is-store (sym (read-holds a code is _ (c .before .before .before .before .instruction-at .ensures) (c .before .before .i .given .1)))
 
 returns-2 : tie.Need-returns-2
 unfolding is-store
-returns-2 c = λ a code is. ap is-store (sym (read-bad a code is _ (c .before .before .instruction-at .ensures) (c .enum-told .given .1)))
+returns-2 c = λ a code is. ap is-store (sym (read-ended a code is _ (c .before .before .instruction-at .ensures) (c .enum-told .given .1)))
 
 pub store-at-spec : {M : Type 1} → statement M
 store-at-spec =
