@@ -74,24 +74,24 @@ module _ (sc tso : List ℕ) (j : Job) (c : ℕ) (files : OfOneJob sc tso j c) (
   pub reached-alike : (x : State) → AllEmpty x → Reached (machine (under Tso c j)) x ↔ Reached (machine j) x
   reached-alike x empty = subst (λ z. Reached (machine (under Tso c j)) x ↔ Reached (machine z) x) as-it-stands (signed.signed j ok passes c room x empty)
 
-module _ (sc tso : List ℕ) (j : Job) (c : ℕ) (files : OfOneJob sc tso j c) (check : FencesMean sc fenced-words) (flag : j .all-empty ≡ true) where
-  -- SC searched and found unreachable: no schedule of any length reaches a goal under TSO, at the capacity that the second file says
-  pub sign-for-tso : (m m′ : Lent) (n : ℕ) → SearchMeans sc m (unreachable-words n) m′ → NoGoal (machine (under Tso c j))
-  sign-for-tso m m′ n h =
-      let r = ruled-out sc j (files .sc-is) m m′ n h in
-      signed.no-goal-alike j (ok sc tso j c files check) (passes sc tso j c files check) flag c (room sc tso j c files check) .1 (subst (λ z. NoGoal (machine z)) (sym (as-it-stands sc tso j c files check)) (r .means .no-goal))
+  module _ (flag : j .all-empty ≡ true) where
+    -- SC searched and found unreachable: no schedule of any length reaches a goal under TSO, at the capacity that the second file says
+    pub sign-for-tso : (m m′ : Lent) (n : ℕ) → SearchMeans sc m (unreachable-words n) m′ → NoGoal (machine (under Tso c j))
+    sign-for-tso m m′ n h =
+        let r = ruled-out sc j (files .sc-is) m m′ n h in
+        signed.no-goal-alike j ok passes flag c room .1 (subst (λ z. NoGoal (machine z)) (sym as-it-stands) (r .means .no-goal))
 
-  -- the two searches never contradict each other
-  pub never-contradict : (m m′ l l′ : Lent) (d n k : ℕ)
-      → SearchMeans tso m (reachable-words d n) m′ → SearchMeans sc l (unreachable-words k) l′ → ⊥
-  never-contradict m m′ l l′ d n k h u =
-      let f = found tso (under Tso c j) (files .tso-is) m m′ d n h in
-      let r = subst (λ z. RuledOutIn z k) (sym (as-it-stands sc tso j c files check)) (ruled-out sc j (files .sc-is) l l′ k u) in
-      signed.never-contradict j (ok sc tso j c files check) (passes sc tso j c files check) flag c (room sc tso j c files check) (f .slots) (r .slots) d n k (f .outcome) (r .outcome) (f .means) (r .means)
+    -- the two searches never contradict each other
+    pub never-contradict : (m m′ l l′ : Lent) (d n k : ℕ)
+        → SearchMeans tso m (reachable-words d n) m′ → SearchMeans sc l (unreachable-words k) l′ → ⊥
+    never-contradict m m′ l l′ d n k h u =
+        let f = found tso (under Tso c j) (files .tso-is) m m′ d n h in
+        let r = subst (λ z. RuledOutIn z k) (sym as-it-stands) (ruled-out sc j (files .sc-is) l l′ k u) in
+        signed.never-contradict j ok passes flag c room (f .slots) (r .slots) d n k (f .outcome) (r .outcome) (f .means) (r .means)
 
-  pub never-contradict-back : (m m′ l l′ : Lent) (d n k : ℕ)
-      → SearchMeans sc m (reachable-words d n) m′ → SearchMeans tso l (unreachable-words k) l′ → ⊥
-  never-contradict-back m m′ l l′ d n k h u =
-      let f = subst (λ z. FoundIn z d n m m′) (sym (as-it-stands sc tso j c files check)) (found sc j (files .sc-is) m m′ d n h) in
-      let r = ruled-out tso (under Tso c j) (files .tso-is) l l′ k u in
-      signed.never-contradict-back j (ok sc tso j c files check) (passes sc tso j c files check) flag c (room sc tso j c files check) (f .slots) (r .slots) d n k (f .outcome) (r .outcome) (f .means) (r .means)
+    pub never-contradict-back : (m m′ l l′ : Lent) (d n k : ℕ)
+        → SearchMeans sc m (reachable-words d n) m′ → SearchMeans tso l (unreachable-words k) l′ → ⊥
+    never-contradict-back m m′ l l′ d n k h u =
+        let f = subst (λ z. FoundIn z d n m m′) (sym as-it-stands) (found sc j (files .sc-is) m m′ d n h) in
+        let r = ruled-out tso (under Tso c j) (files .tso-is) l l′ k u in
+        signed.never-contradict-back j ok passes flag c room (f .slots) (r .slots) d n k (f .outcome) (r .outcome) (f .means) (r .means)
