@@ -1,24 +1,86 @@
--- What the promises allow on 01's list: for a fence check, a replay and a refusal of the list, the list's answer and no other.
--- So a check that always says OPEN breaks its promise at P9, one that always says FENCED at P1, a replay that always says "reaches" at P10,
--- and whatever refuses everything at P1.
-use mathlib.Core.Path.{_≡_, refl, sym, subst}
+-- What the promises allow on 01's list: the list's answer and no other. So whatever refuses everything, or always says unknown or
+-- unreachable, or makes up counts, breaks its promise at P1; a check that always says OPEN at P9, one that always says FENCED at P1;
+-- a replay that always says "reaches" at P10.
+use mathlib.Core.Path.{_≡_, refl, sym, _∙_, ap, subst}
 use mathlib.Core.List.{List}
-use Prim.Native.Nat.{ℕ}
+use mathlib.Core.Option.{none, some}
+use Prim.Native.Nat.{ℕ, zero, suc, _≤_}
+use native.Mathlib.Omega.{arith}
+use lib.ListN.{length, take, drop}
+use lib.Seq.{take-at}
 use Rattle.reach.specs.Lists.{All}
 use Rattle.reach.specs.ListLaws.{all-imp}
+use Rattle.reach.specs.Meaning.{Answer, reachable, unreachable, unknown, Outcome, LeastGoal, NoGoal, Reached, AtMost, Counts, GoalSchedule, MeansAt}
+use Rattle.reach.specs.Order.{First}
+use Rattle.reach.specs.Promise.{Brings, unknown-exactly}
+use Rattle.reach.specs.System.{System}
+use Rattle.reach.specs.Unique.{counts-unique, first-unique, goal-unique}
 use Rattle.rules.specs.Job.{Job}
 use Rattle.rules.specs.File.{Decoded, accepted, refused, decode}
+use Rattle.rules.specs.Machine.{machine}
 use Rattle.rules.specs.Worked.{Claim, search-reaches, search-never, search-unknown, fences-say, replay-says, refuses, Case, CaseHolds, Meant, table, worked}
 use Rattle.fences.specs.Meaning as fences
 use Rattle.replay.specs.Meaning as replay
 use Rattle.search.specs.Meaning as search
+use Rattle.together.specs.Answered.{reachable-words, unreachable-words}
 
--- the words that a claim of the list fixes
-module _ (bytes : List ℕ) where
+-- What a claim about a search fixes of the outcome.
+
+least-goal : (S : System) (d : ℕ) (w : List ℕ) → Brings S d w → LeastGoal S d
+least-goal S d w b =
+    record {
+      goal = b .goal;
+      holds = b .holds;
+      distance = record { way = w; leads = b .replays; steps = b .steps; least = λ v l. b .none-shorter v (b .goal) l (b .holds) };
+      least = λ x k g far. subst (λ z. d ≤ z) (far .steps) (b .none-shorter (far .way) x (far .leads) g);
+    }
+
+first-schedule : (S : System) (d : ℕ) (w : List ℕ) → Brings S d w → First (GoalSchedule S d) w
+first-schedule S d w b =
+    record {
+      has = record { goal = b .goal; holds = b .holds; leads = b .replays; steps = b .steps };
+      none-earlier = λ v g. b .none-before v (g .goal) (g .leads) (g .holds);
+    }
+
+module _ (S : System) (N : ℕ) (o : Outcome (S .State)) where
+  reaches-fixed : (d n : ℕ) (w : List ℕ) → Brings S d w → Counts (AtMost S d) n → n ≤ N → (a : Answer) → MeansAt S N a o →
+      (a ≡ reachable d n) × (o .schedule ≡ w)
+  reaches-fixed d n w b c fits (reachable e m) h =
+      let same-d : e ≡ d = goal-unique S e d (h .least) (least-goal S d w b) in
+      let same-n : m ≡ n = counts-unique (AtMost S d) m n (subst (λ z. Counts (AtMost S z) m) same-d (h .counted)) c in
+      let first : First (GoalSchedule S d) (o .schedule) = subst (λ z. First (GoalSchedule S z) (o .schedule)) same-d (h .first) in (
+        ap {B = Answer} (λ z. reachable z m) same-d ∙ ap {B = Answer} (reachable d) same-n,
+        first-unique (GoalSchedule S d) (o .schedule) w (first .has .steps ∙ sym (b .steps)) first (first-schedule S d w b),
+      )
+  reaches-fixed d n w b c fits (unreachable m) h = absurd (h .no-goal (b .goal) (b .holds) (record { way = w; leads = b .replays }))
+  reaches-fixed d n w b c fits (unknown m) h = absurd (h .not-reachable d n (least-goal S d w b) c fits)
+
+  never-fixed : (n : ℕ) → NoGoal S → Counts (Reached S) n → n ≤ N → (a : Answer) → MeansAt S N a o → a ≡ unreachable n
+  never-fixed n nowhere c fits (reachable e m) h =
+      absurd (nowhere (h .least .goal) (h .least .holds) (record { way = h .least .distance .way; leads = h .least .distance .leads }))
+  never-fixed n nowhere c fits (unreachable m) h = ap {B = Answer} unreachable (counts-unique (Reached S) m n (h .counted) c)
+  never-fixed n nowhere c fits (unknown m) h = absurd (h .not-unreachable n nowhere c fits)
+
+-- what a search answered, with the list's number of slots lent
+module _ (bytes : List ℕ) (j : Job) (is : decode bytes ≡ accepted j) (N : ℕ) (some-slot : 1 ≤ N) where
+  answered : (m m′ : search.Lent) (ws : List ℕ) → search.slots-lent m ≡ N → search.SearchMeans bytes m ws m′ → search.IsAnswered j N m ws m′
+  answered m m′ ws slots h =
+      which N some-slot (subst (λ n. search.MeansWith j n m ws m′) slots (subst (λ z. search.MeansOf z m ws m′) is h))
+    where
+      which : (n : ℕ) → 1 ≤ n → search.MeansWith j n m ws m′ → search.IsAnswered j n m ws m′
+      which zero l k = absurd (omega arith)
+      which (suc n) l k = k
+
+-- the words that a claim of the list fixes, with its number of slots lent
+module _ (bytes : List ℕ) (N : ℕ) where
+  abbrev pub Searched : (List ℕ → search.Lent → Type 0) → Type 0
+  Searched P = (m m′ : search.Lent) (ws : List ℕ) → search.slots-lent m ≡ N → search.SearchMeans bytes m ws m′ → P ws m′
+
   abbrev pub Fixes : Claim → Type 0
-  Fixes (search-reaches n w) = Unit {0}
-  Fixes (search-never n) = Unit {0}
-  Fixes search-unknown = Unit {0}
+  Fixes (search-reaches n w) = Searched (λ ws m′. (ws ≡ reachable-words (length w) n) × (take (length w) (m′ .schedule) ≡ w))
+  Fixes (search-never none) = Unit {0}
+  Fixes (search-never (some n)) = Searched (λ ws m′. ws ≡ unreachable-words n)
+  Fixes search-unknown = Searched (λ ws m′. ws ≡ search.answer-words (unknown N))
   Fixes (fences-say a) = (ws : List ℕ) → fences.FencesMean bytes ws → ws ≡ fences.checked-words a
   Fixes (replay-says w a) = (ws : List ℕ) → replay.ReplayMeans bytes w ws → ws ≡ replay.replayed-words a
   Fixes (refuses number offset) =
@@ -26,19 +88,36 @@ module _ (bytes : List ℕ) where
       × ((w ws : List ℕ) → replay.ReplayMeans bytes w ws → ws ≡ replay.refusal-words number offset)
       × ((m m′ : search.Lent) (ws : List ℕ) → search.SearchMeans bytes m ws m′ → search.IsRefused number offset m ws m′)
 
-  fixed-accepted : (N : ℕ) (j : Job) → decode bytes ≡ accepted j → (c : Claim) → Meant N c (accepted j) → Fixes c
-  fixed-accepted N j is (search-reaches n w) h = tt
-  fixed-accepted N j is (search-never n) h = tt
-  fixed-accepted N j is search-unknown h = tt
-  fixed-accepted N j is (fences-say a) h =
+  fixed-accepted : 1 ≤ N → (j : Job) → decode bytes ≡ accepted j → (c : Claim) → Meant N c (accepted j) → Fixes c
+  fixed-accepted some-slot j is (search-reaches n w) h =
+      λ m m′ ws slots k.
+      (let x = answered bytes j is N some-slot m m′ ws slots k in
+      let o = x .outcome in
+      let f = reaches-fixed (machine j) N o (length w) n w (h .0) (h .1) (h .2) (o .answer) (x .means) in (
+        x .answer ∙ ap search.answer-words (f .0),
+        ap (λ z. take (length w) (z .schedule)) (x .buffers)
+            ∙ take-at (o .schedule) (drop (length (o .schedule)) (m .schedule)) (length w) (ap length (f .1))
+            ∙ f .1,
+      ))
+  fixed-accepted some-slot j is (search-never none) h = tt
+  fixed-accepted some-slot j is (search-never (some n)) h =
+      λ m m′ ws slots k.
+      (let x = answered bytes j is N some-slot m m′ ws slots k in
+      let nowhere : NoGoal (machine j) = λ y g r. h .0 (r .way) y (r .leads) g in
+      x .answer ∙ ap search.answer-words (never-fixed (machine j) N (x .outcome) n nowhere (h .1) (h .2) (x .outcome .answer) (x .means)))
+  fixed-accepted some-slot j is search-unknown h =
+      λ m m′ ws slots k.
+      (let x = answered bytes j is N some-slot m m′ ws slots k in
+      x .answer ∙ ap search.answer-words (unknown-exactly (machine j) N (x .outcome) (x .means) .1 h))
+  fixed-accepted some-slot j is (fences-say a) h =
       λ ws k.
       fences.fences-once bytes ws (fences.checked-words a) k
       (fences.fences-accepted bytes (fences.checked-words a) j is (record { checked = a; means = h; answer = refl }))
-  fixed-accepted N j is (replay-says w a) h =
+  fixed-accepted some-slot j is (replay-says w a) h =
       λ ws k.
       replay.replay-once bytes w ws (replay.replayed-words a) k
       (subst (λ d. replay.MeansOf d w (replay.replayed-words a)) (sym is) (record { replayed = a; means = h; answer = refl }))
-  fixed-accepted N j is (refuses number offset) h = absurd h
+  fixed-accepted some-slot j is (refuses number offset) h = absurd h
 
   fixed-refused : (number offset : ℕ) → decode bytes ≡ refused number offset → Fixes (refuses number offset)
   fixed-refused number offset is = (
@@ -47,13 +126,13 @@ module _ (bytes : List ℕ) where
     λ m m′ ws k. subst (λ d. search.MeansOf d m ws m′) is k,
   )
 
-  fixed : (N : ℕ) (d : Decoded) → decode bytes ≡ d → (c : Claim) → Meant N c d → Fixes c
-  fixed N (accepted j) is c h = fixed-accepted N j is c h
-  fixed N (refused number offset) is c h = subst Fixes (sym h) (fixed-refused number offset is)
-
-pub case-fixed : (c : Case) → CaseHolds c → Fixes (c .bytes) (c .claim)
-case-fixed c h = fixed (c .bytes) (c .slots) (decode (c .bytes)) refl (c .claim) h
+  fixed : 1 ≤ N → (d : Decoded) → decode bytes ≡ d → (c : Claim) → Meant N c d → Fixes c
+  fixed some-slot (accepted j) is c h = fixed-accepted some-slot j is c h
+  fixed some-slot (refused number offset) is c h = subst Fixes (sym h) (fixed-refused number offset is)
 
 -- every case of the list
-pub listed : All (λ c. Fixes (c .bytes) (c .claim)) table
-listed = all-imp CaseHolds (λ c. Fixes (c .bytes) (c .claim)) case-fixed table worked
+abbrev pub CaseFixed : Case → Type 0
+CaseFixed c = 1 ≤ c .slots → Fixes (c .bytes) (c .slots) (c .claim)
+
+pub listed : All CaseFixed table
+listed = all-imp CaseHolds CaseFixed (λ c h slots. fixed (c .bytes) (c .slots) slots (decode (c .bytes)) refl (c .claim) h) table worked
