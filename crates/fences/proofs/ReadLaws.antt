@@ -3,7 +3,7 @@ use mathlib.Core.Path.{_≡_, refl, sym, _∙_, ap, subst}
 use mathlib.Core.Logic.{_⊎_, inl, inr}
 use mathlib.Core.Bool.{Bool, true, false, _&&_, _||_, not}
 use mathlib.Core.List.{List, [], _∷_}
-use mathlib.Core.Option.{none, some}
+use mathlib.Core.Option.{Option, none, some}
 use Prim.Native.Nat.{ℕ, suc, _+_}
 use native.Mathlib.Omega.{arith}
 use native.Mathlib.Numerals.{add-one}
@@ -14,14 +14,15 @@ use Rattle.reach.specs.System.{andThen}
 use Rattle.bits.specs.Bits.{bit-of, Has, Put}
 use Rattle.rules.specs.Job.{Job}
 use Rattle.rules.specs.Tests.{both, of-both}
-use Rattle.rules.specs.Fences.{onward, onward-at, successors, is-load, is-fence}
+use Rattle.rules.specs.Fences.{onward, onward-at, successors, is-store, is-load, is-fence}
 use Rattle.rules.specs.declared.Instr.{Instr}
 use Rattle.job.specs.Laid.{Laid, IsAccepted}
 use Rattle.job.specs.Passed.{place-of}
 use Rattle.job.specs.declared.PlaceRead.{PlaceRead}
 use Rattle.job.specs.declared.PlaceRead.the-variants.{Holds, Ended}
 use Rattle.job.specs.declared.Layout.{Layout}
-use Rattle.fences.specs.Places.{Joined, joined-one, GoesOn, MetLoad}
+use Rattle.fences.specs.Places.{Plays, Joined, joined-one, GoesOn, MetLoad}
+use Rattle.fences.specs.declared.Role.{Role}
 
 module _ {bytes : List ℕ} {l : Layout} (a : IsAccepted bytes l) {t : ℕ} (code : List Instr) (is : getElem? (a .job .threads) t ≡ some code) where
   pub code-number : (n : ℕ) → ((j : Job) → Laid bytes l j → n ≡ length (getD (j .threads) t [])) → n ≡ length code
@@ -36,6 +37,16 @@ module _ {bytes : List ℕ} {l : Layout} (a : IsAccepted bytes l) {t : ℕ} (cod
 
     pub read-ended : r ≡ Ended → getElem? code p ≡ none
     read-ended e = sym read-at ∙ ap place-of e
+
+-- the role by the instruction
+pub plays : (o : Option Instr) (r : Role) → (r .store ≡ is-store o) × (r .load ≡ is-load o) × (r .fence ≡ is-fence o) → Plays o r
+plays o r h = record { store = h .0; load = h .1; fence = h .2 }
+
+pub plays-as : {i k : Instr} {r : Role} → i ≡ k → Plays (some k) r → Plays (some i) r
+plays-as {r = r} e = subst (λ i. Plays (some i) r) (sym e)
+
+pub plays-at : {o k : Option Instr} {r : Role} → o ≡ k → Plays k r → Plays o r
+plays-at {r = r} e = subst (λ o. Plays o r) (sym e)
 
 -- the successors by the instruction
 pub successors-as : (p : ℕ) {m r : ℕ} {i k : Instr} → i ≡ k → Joined (onward p k) m r → Joined (onward p i) m r

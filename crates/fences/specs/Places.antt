@@ -21,6 +21,13 @@ use Rattle.rules.specs.FenceCheck.{move-inside, load-inside, store-inside, leas
 use Rattle.rules.specs.declared.Instr.{Instr}
 use Rattle.rules.specs.declared.Instr.the-variants.{Set, Add, Load, Store, Fence, Xchg, Jeq, Jmp}
 use Rattle.fences.specs.declared.Pair.{Pair}
+use Rattle.fences.specs.declared.Role.{Role}
+
+-- what an instruction is to the check: store, load, fence
+pub record Plays (o : Option Instr) (r : Role) : Type 0 where
+  pub store : r .store ≡ is-store o
+  pub load : r .load ≡ is-load o
+  pub fence : r .fence ≡ is-fence o
 
 -- a set with some numbers more; of these a word has those below its width
 pub record Joined (qs : List ℕ) (m r : ℕ) : Type 0 where

@@ -12,7 +12,7 @@ ghost use Rattle.rules.specs.Fences as rules;
 ghost use Rattle.rules.specs.declared.Instr as Declared;
 ghost use Rattle.job.specs.Laid.{IsAccepted};
 ghost use Rattle.fences.specs.Meaning.{words, MeansFor, FencesMean};
-ghost use Rattle.fences.specs.Places.{Joined, Grown, Met, LeastBelow, MetLoad, PairMeans};
+ghost use Rattle.fences.specs.Places.{Plays, Joined, Grown, Met, LeastBelow, MetLoad, PairMeans};
 
 // What a fence check answers: the refusal's number and offset; no pair is open; the least open pair, its thread, store place and load place.
 pub enum Answer {
@@ -28,76 +28,46 @@ struct Pair {
     load: u8,
 }
 
-fn is_store(i: Instr) -> bool
-    ensures { λ r. ⌜ r ≡ rules.is-store (some i) ⌝ }
+// What an instruction is to the check. XCHG is a fence, and neither store nor load.
+struct Role {
+    store: bool,
+    load: bool,
+    fence: bool,
+}
+
+fn role_of(store: bool, load: bool, fence: bool) -> Role
+    ensures { λ r. ⌜ (r .store ≡ store) × (r .load ≡ load) × (r .fence ≡ fence) ⌝ }
 {
+    Role { store, load, fence }
+}
+
+fn role_played(i: Instr) -> Role
+    ensures { λ r. ⌜ Plays (some i) r ⌝ }
+{
+    let other = role_of(false, false, false);
+    let fence = role_of(false, false, true);
     match i {
-        Instr::Set(_, _) => false,
-        Instr::Add(_, _) => false,
-        Instr::Load(_, _) => false,
-        Instr::Store(_, _) => true,
-        Instr::Fence => false,
-        Instr::Xchg(_, _) => false,
-        Instr::Jeq(_, _, _) => false,
-        Instr::Jmp(_) => false,
+        Instr::Set(_, _) => other,
+        Instr::Add(_, _) => other,
+        Instr::Load(_, _) => role_of(false, true, false),
+        Instr::Store(_, _) => role_of(true, false, false),
+        Instr::Fence => fence,
+        Instr::Xchg(_, _) => fence,
+        Instr::Jeq(_, _, _) => other,
+        Instr::Jmp(_) => other,
     }
 }
 
-fn is_load(i: Instr) -> bool
-    ensures { λ r. ⌜ r ≡ rules.is-load (some i) ⌝ }
-{
-    match i {
-        Instr::Set(_, _) => false,
-        Instr::Add(_, _) => false,
-        Instr::Load(_, _) => true,
-        Instr::Store(_, _) => false,
-        Instr::Fence => false,
-        Instr::Xchg(_, _) => false,
-        Instr::Jeq(_, _, _) => false,
-        Instr::Jmp(_) => false,
-    }
-}
-
-fn is_fence(i: Instr) -> bool
-    ensures { λ r. ⌜ r ≡ rules.is-fence (some i) ⌝ }
-{
-    match i {
-        Instr::Set(_, _) => false,
-        Instr::Add(_, _) => false,
-        Instr::Load(_, _) => false,
-        Instr::Store(_, _) => false,
-        Instr::Fence => true,
-        Instr::Xchg(_, _) => true,
-        Instr::Jeq(_, _, _) => false,
-        Instr::Jmp(_) => false,
-    }
-}
-
-// Whether a store stands at place p of thread t.
-fn store_at(job: &[u8], l: Layout, t: u8, p: u8) -> bool
+// What stands at place p of thread t is to the check; past its end nothing is anything.
+fn role_at(job: &[u8], l: Layout, t: u8, p: u8) -> Role
     requires { ⌜ IsAccepted (now job) l ⌝ }
     ensures { λ r. ⌜
-        ((a : IsAccepted (now (job .entry)) l) (code : List Declared.Instr) → getElem? (a .job .threads) t ≡ some code →
-        r ≡ rules.is-store (getElem? code p))
+        ((a : IsAccepted (now (job .entry)) l) (code : List Declared.Instr) → getElem? (a .job .threads) t ≡ some code → Plays (getElem? code p) r)
         ⌝ }
 {
     match job::parts::instruction_at(job, l, t, p) {
-        PlaceRead::Holds(i) => is_store(i),
-        PlaceRead::Ended => false,
-    }
-}
-
-// Whether a load stands at place p of thread t.
-fn load_at(job: &[u8], l: Layout, t: u8, p: u8) -> bool
-    requires { ⌜ IsAccepted (now job) l ⌝ }
-    ensures { λ r. ⌜
-        ((a : IsAccepted (now (job .entry)) l) (code : List Declared.Instr) → getElem? (a .job .threads) t ≡ some code →
-        r ≡ rules.is-load (getElem? code p))
-        ⌝ }
-{
-    match job::parts::instruction_at(job, l, t, p) {
-        PlaceRead::Holds(i) => is_load(i),
-        PlaceRead::Ended => false,
+        PlaceRead::Holds(i) => role_played(i),
+        PlaceRead::Ended => role_of(false, false, false),
     }
 }
 
@@ -130,7 +100,8 @@ fn onward_from(job: &[u8], l: Layout, t: u8, store: u8, p: u8, met: u64) -> u64
 {
     match job::parts::instruction_at(job, l, t, p) {
         PlaceRead::Holds(i) => {
-            let goes_on = (p == store) | (bits::has(met, p) & !is_fence(i));
+            let own = role_played(i);
+            let goes_on = (p == store) | (bits::has(met, p) & !own.fence);
             if goes_on {
                 with_successors(met, p, i)
             } else {
@@ -186,9 +157,9 @@ fn least_load(job: &[u8], l: Layout, t: u8, met: u64) -> u8
     let n = job::parts::code_length(job, l, t);
     let mut place: u8 = 0;
     while place < n {
-        let is_load = load_at(job, l, t, place);
+        let own = role_at(job, l, t, place);
         let was_met = bits::has(met, place);
-        if is_load & was_met {
+        if own.load & was_met {
             return place;
         }
         place += 1;
@@ -204,8 +175,8 @@ fn open_load(job: &[u8], l: Layout, t: u8, store: u8) -> u8
         LeastBelow (rules.Open (a .job) t store) (length code) r)
         ⌝ }
 {
-    let is_store = store_at(job, l, t, store);
-    if !is_store {
+    let own = role_at(job, l, t, store);
+    if !own.store {
         return job::parts::code_length(job, l, t);
     }
     let met = places_met(job, l, t, store);

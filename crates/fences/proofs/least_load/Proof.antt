@@ -31,8 +31,8 @@ code-length-requires c κs = search needs
 loop-holds : tie.Need-loop-holds Inv-loop μ-loop
 loop-holds c = record { within = omega arith; passed = λ a code is i l. absurd (omega arith) }
 
-load-at-requires : tie.Need-load-at-requires Inv-loop μ-loop
-load-at-requires c κs = c .before .before .before .before .pre
+role-at-requires : tie.Need-role-at-requires Inv-loop μ-loop
+role-at-requires c κs = c .before .before .before .before .pre
 
 has-requires : tie.Need-has-requires Inv-loop μ-loop
 has-requires c κs = search needs
@@ -40,11 +40,11 @@ has-requires c κs = search needs
 returns : tie.Need-returns Inv-loop μ-loop
 returns c =
     λ a code is.
-    let number = code-number a code is _ (c .before .before .before .before .before .code-length .ensures) in
+    let number = code-number a code is _ (c .before .before .before .before .before .before .code-length .ensures) in
     record {
       within = omega (arith, number);
-      holds = λ l. met-load code _ _ _ _ (c .before .before .load-at .ensures a code is) (c .before .has .ensures) (c .if1 .taken);
-      before = c .before .before .before .before .loop .inv .passed a code is;
+      holds = λ l. met-load code _ _ _ _ (c .before .before .before .role-at .ensures a code is .load) (c .before .before .has .ensures) (c .if1 .taken);
+      before = c .before .before .before .before .before .loop .inv .passed a code is;
     }
 
 add-place : tie.Need-add-place Inv-loop μ-loop
@@ -59,8 +59,8 @@ loop-again c =
       within = omega arith;
       passed =
           λ a code is.
-          all-so-far (λ i. ¬ (MetLoad code _ i)) _ (c .before .before .before .before .loop .inv .passed a code is)
-          (no-met-load code _ _ _ _ (c .before .before .load-at .ensures a code is) (c .before .has .ensures) (c .if1 .left));
+          all-so-far (λ i. ¬ (MetLoad code _ i)) _ (c .before .before .before .before .before .loop .inv .passed a code is)
+          (no-met-load code _ _ _ _ (c .before .before .before .role-at .ensures a code is .load) (c .before .before .has .ensures) (c .if1 .left));
     }
 
 returns-2 : tie.Need-returns-2 Inv-loop μ-loop
@@ -81,7 +81,7 @@ least-load-spec =
     μ-loop
     code-length-requires
     loop-holds
-    load-at-requires
+    role-at-requires
     has-requires
     returns
     add-place

@@ -13,11 +13,11 @@ instruction-at-requires c κs = search needs
 enum-known-i : tie.Need-enum-known-i
 enum-known-i c = search needs
 
+role-played-requires : tie.Need-role-played-requires
+role-played-requires c κs = search needs
+
 has-requires : tie.Need-has-requires
 has-requires c κs = search needs
-
-is-fence-requires : tie.Need-is-fence-requires
-is-fence-requires c κs = search needs
 
 with-successors-requires : tie.Need-with-successors-requires
 with-successors-requires c κs = search needs
@@ -28,18 +28,19 @@ enum-told c = search needs
 returns : tie.Need-returns
 returns c =
     λ a code is.
-    let at = read-holds a code is _ (c .before .before .before .before .before .before .before .instruction-at .ensures) (c .before .before .before .before .before .i .given .1) in
+    let at = read-holds a code is _ (c .before .before .before .before .before .before .before .before .instruction-at .ensures) (c .before .before .before .before .before .before .i .given .1) in
+    let own = c .before .before .before .before .role-played .ensures .fence in
     grown-on code _ _ _ _
-    (goes-on code _ _ _ _ _ (c .before .before .before .has .ensures) (c .before .before .is-fence .ensures ∙ ap is-fence (sym at)) (c .before .if1 .taken))
+    (goes-on code _ _ _ _ _ (c .before .before .before .has .ensures) (own ∙ ap is-fence (sym at)) (c .before .if1 .taken))
     (successors-at code _ _ _ _ at (c .with-successors .ensures))
     (move-to (a .job) (a .in-range) _ code is _)
 
 returns-2 : tie.Need-returns-2
 returns-2 c =
     λ a code is.
-    let at = read-holds a code is _ (c .before .before .before .before .before .before .instruction-at .ensures) (c .before .before .before .before .i .given .1) in
-    grown-not code _ _ _
-    (goes-not code _ _ _ _ _ (c .before .before .has .ensures) (c .before .is-fence .ensures ∙ ap is-fence (sym at)) (c .if1 .left))
+    let at = read-holds a code is _ (c .before .before .before .before .before .before .before .instruction-at .ensures) (c .before .before .before .before .before .i .given .1) in
+    let own = c .before .before .before .role-played .ensures .fence in
+    grown-not code _ _ _ (goes-not code _ _ _ _ _ (c .before .before .has .ensures) (own ∙ ap is-fence (sym at)) (c .if1 .left))
 
 returns-3 : tie.Need-returns-3
 returns-3 c = λ a code is. grown-end code _ _ _ (read-ended a code is _ (c .before .before .instruction-at .ensures) (c .enum-told .given .1))
@@ -50,8 +51,8 @@ onward-from-spec =
     (tie.spec
     instruction-at-requires
     enum-known-i
+    role-played-requires
     has-requires
-    is-fence-requires
     with-successors-requires
     enum-told
     returns

@@ -8,8 +8,8 @@ use Rattle.fences.proofs.ReadLaws.{code-number}
 use Rattle.fences.proofs.open_load.Statement.{statement}
 use Rattle.fences.proofs.open_load.Tie as tie
 
-store-at-requires : tie.Need-store-at-requires
-store-at-requires c κs = search needs
+role-at-requires : tie.Need-role-at-requires
+role-at-requires c κs = search needs
 
 code-length-requires : tie.Need-code-length-requires
 code-length-requires c κs = search needs
@@ -18,7 +18,7 @@ returns : tie.Need-returns
 returns c =
     λ a code is.
     open-none (a .job) _ code is _
-    (λ h. subst T (sym (c .before .before .store-at .ensures a code is) ∙ not-true _ (c .before .if1 .taken)) h) _
+    (λ h. subst T (sym (c .before .before .before .role-at .ensures a code is .store) ∙ not-true _ (c .before .if1 .taken)) h) _
     (code-number a code is _ (c .code-length .ensures))
 
 places-met-requires : tie.Need-places-met-requires
@@ -31,10 +31,10 @@ returns-2 : tie.Need-returns-2
 returns-2 c =
     λ a code is.
     open-of (a .job) _ code is _
-    (subst T (sym (not-false _ (c .before .before .if1 .left)) ∙ c .before .before .before .store-at .ensures a code is) tt) _ _
+    (subst T (sym (not-false _ (c .before .before .if1 .left)) ∙ c .before .before .before .before .role-at .ensures a code is .store) tt) _ _
     (c .before .places-met .ensures a code is) (c .least-load .ensures a code is)
 
 pub open-load-spec : {M : Type 1} → statement M
 open-load-spec =
     tie.close
-    (tie.spec store-at-requires code-length-requires returns places-met-requires least-load-requires returns-2)
+    (tie.spec role-at-requires code-length-requires returns places-met-requires least-load-requires returns-2)
