@@ -14,7 +14,7 @@ pub struct Buf {
     pub slots: [u8; 16],
 }
 
-// What a flush takes: whether there is such a store, its value, and the buffer without it (the buffer itself where there is none).
+// What a flush takes: whether there is such a store, its value, and the buffer without it.
 pub struct Taken {
     pub found: bool,
     pub value: u8,

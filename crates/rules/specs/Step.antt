@@ -1,4 +1,4 @@
--- One step of the machine under each model: 01, "The machine" and "Memory rules". Rules i to vii are those of source document 003.
+-- One step of the machine under each model: 01, "The machine" and "Memory rules". Rules i to ix are those of source document 003.
 use mathlib.Core.Bool.{Bool, true, false, cond}
 use mathlib.Core.List.{List, [], _∷_, _++_}
 use mathlib.Core.Option.{Option, none, some}

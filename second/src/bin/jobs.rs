@@ -33,7 +33,7 @@ fn main() -> ExitCode {
             for fault in &faults {
                 eprintln!("{fault}");
             }
-            eprintln!("jobs: {} faults", faults.len());
+            eprintln!("jobs: faults found: {}", faults.len());
             ExitCode::FAILURE
         }
     }
