@@ -58,7 +58,7 @@ fn role_played(i: Instr) -> Role
     }
 }
 
-// What stands at place p of thread t is to the check; past its end nothing is anything.
+// What the instruction at place p of thread t is to the check; past the thread's end there is none.
 fn role_at(job: &[u8], l: Layout, t: u8, p: u8) -> Role
     requires { ⌜ IsAccepted (now job) l ⌝ }
     ensures { λ r. ⌜
