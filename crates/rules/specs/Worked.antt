@@ -27,7 +27,7 @@ use Rattle.rules.specs.File.{after, _>>=_, done, times, judged, byte, it
 use Rattle.rules.specs.File.{instruction-of, instruction, thread, flag-of, clause-of, clause, ended, fields, length-ok}
 use Rattle.rules.specs.File.{Decoded, accepted, refused, verdict, decode}
 use Rattle.rules.specs.Tests.{both, three}
-use Rattle.rules.specs.Jobs.{p1, p2, p3, p4, p5, p6, p7, p8, p9, p10, p12, own-newest, fence-waits, exchange, jump-over, either-order, oldest-first, stored-register, exchange-between, cut, cut-unknown, left-over}
+use Rattle.rules.specs.Jobs.{p1, p2, p3, p4, p5, p6, p7, p8, p9, p10, p12, own-newest, fence-waits, exchange, jump-over, either-order, oldest-first, stored-register, exchange-between, ends-and-moves, back-around, past-a-load, next-of-two, over-a-fence, cut, cut-unknown, left-over}
 use Rattle.rules.specs.Machine.{machine, same-list-equal}
 use Rattle.rules.specs.Fences.{onward, onward-at, successors, is-store, is-load, is-fence, Fenced, fenced, open-at, FenceMeans}
 use Rattle.rules.specs.FenceCheck.{move, targets-below, landings, found, leads, or-else, first-below, open-test, open-loads, open-stores}
@@ -101,6 +101,11 @@ table =
     ∷ case 640 oldest-first (search-never (some 6))
     ∷ case 640 stored-register (search-reaches 3 (0x00 ∷ 0x00 ∷ []))
     ∷ case 640 exchange-between (fences-say fenced)
+    ∷ case 640 ends-and-moves (fences-say fenced)
+    ∷ case 640 back-around (fences-say (open-at 0 1 0))
+    ∷ case 640 past-a-load (fences-say (open-at 0 1 2))
+    ∷ case 640 next-of-two (fences-say (open-at 0 0 2))
+    ∷ case 640 over-a-fence (fences-say (open-at 0 0 3))
     -- operation 0 is none; model, C, T and V out of range; a flag and a clause that are none
     ∷ case 640 (set p1 10 0x00) (refuses 4 10)
     ∷ case 640 (set p1 3 0x03) (refuses 3 3)
@@ -317,7 +322,7 @@ all-right (c ∷ l) t =
     (decoded-right (c .slots) (c .claim) (decode (c .bytes)) (p .0), all-right l (p .1))
 
 computed : T (every case-test table)
-unfolding every case-test table p1 p2 p3 p4 p5 p6 p7 p8 p9 p10 p12 own-newest fence-waits exchange jump-over either-order oldest-first stored-register exchange-between cut cut-unknown left-over decoded-test claim-test refusal-test answer-reaches answer-never answer-unknown same-fenced same-replayed place register variable buffer with-place with-register with-variable with-buffer same-list same-pending same-state start newest by-variable joined take-oldest behind take-oldest-to taken is-empty advanced carried buffered stored executed execute flush next clause-holds goal start-row offer-of offer offers-below offers known goal-row keep keep-new put-unless put put-all outcome by-goal by-rest by-room levels find decode after _>>=_ done times judged byte item field model-of in-range capacity-of register-ok zero-ok instruction-of instruction thread flag-of clause-of clause ended fields length-ok verdict onward onward-at successors is-store is-load is-fence move targets-below landings found leads or-else first-below open-test open-loads open-stores open-threads fence-answer fence-check at-end replay-from replay
+unfolding every case-test table p1 p2 p3 p4 p5 p6 p7 p8 p9 p10 p12 own-newest fence-waits exchange jump-over either-order oldest-first stored-register exchange-between ends-and-moves back-around past-a-load next-of-two over-a-fence cut cut-unknown left-over decoded-test claim-test refusal-test answer-reaches answer-never answer-unknown same-fenced same-replayed place register variable buffer with-place with-register with-variable with-buffer same-list same-pending same-state start newest by-variable joined take-oldest behind take-oldest-to taken is-empty advanced carried buffered stored executed execute flush next clause-holds goal start-row offer-of offer offers-below offers known goal-row keep keep-new put-unless put put-all outcome by-goal by-rest by-room levels find decode after _>>=_ done times judged byte item field model-of in-range capacity-of register-ok zero-ok instruction-of instruction thread flag-of clause-of clause ended fields length-ok verdict onward onward-at successors is-store is-load is-fence move targets-below landings found leads or-else first-below open-test open-loads open-stores open-threads fence-answer fence-check at-end replay-from replay
 computed = tt
 
 -- every case of the table holds

@@ -12,7 +12,7 @@ use Rattle.rules.specs.State.{Pending}
 use Rattle.rules.specs.Fences.{onward, onward-at, successors, is-fence, Move, Walk}
 use Rattle.rules.specs.declared.Source.{Source}
 use Rattle.rules.specs.declared.Instr.{Instr}
-use Rattle.rules.specs.declared.Instr.the-variants.{Set, Add, Store, Jeq, Jmp}
+use Rattle.rules.specs.declared.Instr.the-variants.{Set, Add, Load, Store, Fence, Xchg, Jeq, Jmp}
 use Rattle.signed.specs.Own.{Own, at-place, onwards, with-own-register, own-register, carries, after, wrote, Free}
 
 -- the instructions that look at nothing but the thread's own part, and change nothing else
@@ -42,16 +42,21 @@ quiet-wrote adds o m = refl
 quiet-wrote branches o m = refl
 quiet-wrote jumps o m = refl
 
-quiet-move : {i : Instr} → Quiet i → (m : List ℕ) (o : Own) → after i m o .place ∈ onward (o .place) i
+-- every instruction moves its thread to a successor of its place: the check's walks follow the machine
+pub moves-on : (i : Instr) (m : List ℕ) (o : Own) → after i m o .place ∈ onward (o .place) i
 unfolding after onward onwards at-place with-own-register
-quiet-move sets m o = inl refl
-quiet-move adds m o = inl refl
-quiet-move (branches {r = r} {p = p} {k = k}) m o = either (eqb (own-register r o) k)
+moves-on (Set r k) m o = inl refl
+moves-on (Add r k) m o = inl refl
+moves-on (Load r v) m o = inl refl
+moves-on (Store a v) m o = inl refl
+moves-on Fence m o = inl refl
+moves-on (Xchg r v) m o = inl refl
+moves-on (Jeq r p k) m o = either (eqb (own-register r o) k)
   where
     either : (b : Bool) → cond b (at-place p o) (onwards o) .place ∈ (suc (o .place) ∷ p ∷ [])
     either true = inr (inl refl)
     either false = inl refl
-quiet-move jumps m o = inl refl
+moves-on (Jmp p) m o = inl refl
 
 quiet-no-fence : {i : Instr} → Quiet i → ¬ (T (is-fence (some i)))
 unfolding is-fence
@@ -124,7 +129,7 @@ module _ (code : List Instr) where
   unfolding successors onward-at onward is-fence onwards at-place
   ahead-walk s h level = ([], h)
   ahead-walk s h (quietly {o = o} i m e k w) =
-      let r = ahead-walk (o .place) (rw e (quiet-move k m o)) w in
+      let r = ahead-walk (o .place) (rw e (moves-on i m o)) w in
       (o .place ∷ r .0, (h, rw e (quiet-no-fence k), r .1))
   ahead-walk s h (storing {o = o} a v e w) =
       let r = ahead-walk (o .place) (rw e (inl refl)) w in
