@@ -92,7 +92,7 @@ fn take_oldest_to(b: Buf, v: u8) -> Taken
     if at < n { take_out(b, at) } else { nothing(b) }
 }
 
-// SC has no flush.
+// The store that a flush to v takes, by the model: TSO the oldest, PSO the oldest to v; SC has no flush.
 pub fn taken(m: Model, b: Buf, v: u8) -> Taken
     requires { ⌜ BufferOk b ⌝ }
     ensures { λ r. ⌜ Takes r (rules.taken m v (held-buffer b)) ⌝ }

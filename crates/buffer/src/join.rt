@@ -67,7 +67,7 @@ pub fn with_sorted(b: Buf, v: u8, k: u8) -> Buf
     put_in(b, at, v, k)
 }
 
-// SC has no pending store.
+// A store joins the buffer, by the model: under TSO at the end, under PSO by its variable; SC has no pending store.
 pub fn joined(m: Model, b: Buf, v: u8, k: u8) -> Buf
     requires { ⌜ HasRoom b ⌝ }
     ensures { λ r. ⌜ Holds r (rules.joined m (record { variable = v; value = k }) (held-buffer b)) ⌝ }

@@ -9,7 +9,7 @@ use lib.ListN.{length, getD}
 use Rattle.reach.specs.Lists.{All}
 use Rattle.rules.specs.Limits.{values as byte-values, most-threads}
 use Rattle.rules.specs.Job.{Job}
-use Rattle.rules.specs.File.{Read, got, fault, times, field, thread, fields, length-ok, accepted, refused, verdict, decode}
+use Rattle.rules.specs.File.{Read, got, fault, times, field, thread, fields, length-ok, accepted, refused, decoded, decode}
 use Rattle.rules.specs.File as file
 use Rattle.rules.specs.Accepted.{accepted-in}
 use Rattle.rules.specs.declared.Model.{Model}
@@ -149,7 +149,7 @@ module _ (bytes : List ℕ) (g : HeadGot bytes) where
 -- what was read of the fields is what the bytes are, once the length is right
 module _ (bytes : List ℕ) where
   pub means-says : All (λ k. k < byte-values) bytes → length-ok bytes ≡ true → (r : Decoded) → Says bytes (fields bytes 2) r → Means bytes r
-  unfolding decode verdict
+  unfolding decode decoded
   means-says small ok (Accepted l) s =
       let d : decode bytes ≡ accepted (s .job) = rw (ok, s .is) in
       record { job = s .job; decoded = d; in-range = accepted-in bytes small (s .job) d; laid = s .laid }
@@ -169,7 +169,7 @@ module _ (bytes : List ℕ) where
       go false ok e = absurd (let z : _≡_ {A = ℕ} 0 1 = cc in omega arith)
 
   pub begun-fault : (number offset : ℕ) → begun ≡ Fault number offset → decode bytes ≡ refused number offset
-  unfolding decode verdict
+  unfolding decode decoded
   begun-fault number offset e = go (length-ok bytes) refl e
     where
       go :

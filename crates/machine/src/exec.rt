@@ -86,7 +86,7 @@ fn buffered(m: Model, capacity: u8, s: State, t: u8, v: u8, k: u8) -> Moved
     }
 }
 
-// Under SC a store goes straight to memory.
+// A store, by the model: under SC straight to memory, under TSO and PSO into the buffer.
 fn stored(m: Model, capacity: u8, s: State, t: u8, v: u8, k: u8) -> Moved
     requires { ⌜ At s t ⌝ }
     requires { ⌜ v < most-variables ⌝ }

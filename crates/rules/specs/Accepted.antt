@@ -1,4 +1,4 @@
--- Every number of an accepted job is in its range.
+-- Every number of an accepted job is in its range, and a refusal is one of the list: "No other refusals exist."
 use mathlib.Core.Path.{_≡_, refl, ap, subst}
 use mathlib.Core.Logic.{_↔_}
 use mathlib.Core.Bool.{Bool, true, false, cond, _&&_}
@@ -13,22 +13,31 @@ use Rattle.reach.specs.ListLaws.{all-imp, all-getD}
 use Rattle.rules.specs.Limits.{values, longest-thread}
 use Rattle.rules.specs.Job.{Job}
 use Rattle.rules.specs.Step.{given}
-use Rattle.rules.specs.Tests.{both-iff}
+use Rattle.rules.specs.Tests.{both, both-iff}
 use Rattle.rules.specs.File.{Read, got, fault, Reader, after, _>>=_, done, times, judged, byte, item, field, in-range, capacity-of}
 use Rattle.rules.specs.File.{register-ok, zero-ok, instruction-of, instruction, thread, clause-of, clause, ended, fields}
-use Rattle.rules.specs.File.{length-ok, Decoded, accepted, refused, verdict, decode}
+use Rattle.rules.specs.File.{length-ok, Decoded, accepted, refused, decoded, decode}
 use Rattle.rules.specs.Sound.{InstrIn, ClauseIn, CapacityIn, JobIn}
 use Rattle.rules.specs.declared.Model.{Model}
 use Rattle.rules.specs.declared.Model.the-variants.{Sc, Tso, Pso}
 use Rattle.rules.specs.declared.Instr.{Instr}
 
--- Readers that give only values with a property; where there is no value, nothing is asked. Data types, since antt reads P off them.
+-- the numbers that a job's bytes are refused by; 7 is the search's own
+abbrev pub Listed : ℕ → Type 0
+Listed number = (1 ≤ number) × (number ≤ 6)
+
+listed : (number : ℕ) → T (leb 1 number && leb number 6) → Listed number
+listed number t =
+    let p = both (leb 1 number) (leb number 6) t in
+    (leb→le 1 number (p .0), leb→le number 6 (p .1))
+
+-- Readers that give only values with a property, and only faults with a number of the list. Data types, since antt reads P off them.
 data IfSome {A : Type 0} (P : A → Type 0) : Option A → Type 0 where
   of-none : IfSome P none
   of-some : {a : A} → P a → IfSome P (some a)
 
 data IfGot {A : Type 0} (P : A → Type 0) : Read A → Type 0 where
-  of-fault : {number offset : ℕ} → IfGot P (fault number offset)
+  of-fault : {number offset : ℕ} → Listed number → IfGot P (fault number offset)
   of-got : {a : A} {next : ℕ} → P a → IfGot P (got a next)
 
 abbrev Gives : {A : Type 0} → (A → Type 0) → Reader A → Type 0
@@ -39,7 +48,7 @@ module _ {A : Type 0} {P : A → Type 0} where
   gives-map {Q} {r} f h at = go (r at) (h at)
     where
       go : (x : Read A) → IfGot P x → IfGot Q x
-      go x of-fault = of-fault
+      go x (of-fault n) = of-fault n
       go x (of-got {a} p) = of-got (f a p)
 
   then-gives : {B : Type 0} {Q : B → Type 0} {r : Reader A} {f : A → Reader B} →
@@ -48,7 +57,7 @@ module _ {A : Type 0} {P : A → Type 0} where
   then-gives {B} {Q} {r} {f} h k at = go (r at) (h at)
     where
       go : (x : Read A) → IfGot P x → IfGot Q (after x f)
-      go x of-fault = of-fault
+      go x (of-fault n) = of-fault n
       go x (of-got {a} {next} p) = k a p next
 
   cond-got : (b : Bool) {x y : Read A} → IfGot P x → IfGot P y → IfGot P (cond b x y)
@@ -62,17 +71,18 @@ module _ {A : Type 0} {P : A → Type 0} where
   times-gives (suc k) h = then-gives h λ a p. then-gives (times-gives k h) λ l q at. of-got (ap suc (q .0), (p, q .1))
 
   item-gives : (bytes : List ℕ) (size number : ℕ) {value : ℕ → Option A} →
-      ((at : ℕ) → IfSome P (value at)) → Gives P (item bytes size number value)
+      Listed number → ((at : ℕ) → IfSome P (value at)) → Gives P (item bytes size number value)
   unfolding item judged
-  item-gives bytes size number {value} h at = cond-got (leb (at + size) (length bytes)) (go (value at) (h at)) of-fault
+  item-gives bytes size number {value} n h at =
+      cond-got (leb (at + size) (length bytes)) (go (value at) (h at)) (of-fault (listed 6 tt))
     where
       go : (o : Option A) → IfSome P o → IfGot P (judged number at (at + size) o)
-      go o of-none = of-fault
+      go o of-none = of-fault n
       go o (of-some p) = of-got p
 
   ended-gives : (bytes : List ℕ) (a : A) → P a → Gives P (ended bytes a)
   unfolding ended
-  ended-gives bytes a p at = cond-got (eqb at (length bytes)) (of-got p) of-fault
+  ended-gives bytes a p at = cond-got (eqb at (length bytes)) (of-got p) (of-fault (listed 6 tt))
 
 -- The tables of the file. A value of which nothing is asked:
 anything : {A : Type 0} (o : Option A) → IfSome (λ a. Unit {0}) o
@@ -136,34 +146,34 @@ module _ (bytes : List ℕ) (small : All (λ k. k < values) bytes) where
   byte-in at = all-getD (λ k. k < values) bytes at 0 small (omega arith)
 
   field-gives : {A : Type 0} {P : A → Type 0} (number : ℕ) {value : ℕ → Option A} →
-      ((k : ℕ) → k < values → IfSome P (value k)) → Gives P (field bytes number value)
+      Listed number → ((k : ℕ) → k < values → IfSome P (value k)) → Gives P (field bytes number value)
   unfolding field
-  field-gives number h = item-gives bytes 1 number λ at. h (byte bytes at) (byte-in at)
+  field-gives number n h = item-gives bytes 1 number n λ at. h (byte bytes at) (byte-in at)
 
-  range-gives : (number low high : ℕ) → Gives (λ k. (low ≤ k) × (k ≤ high)) (field bytes number (in-range low high))
-  range-gives number low high = field-gives number λ k h. range-in low high k
+  range-gives : (number low high : ℕ) → Listed number → Gives (λ k. (low ≤ k) × (k ≤ high)) (field bytes number (in-range low high))
+  range-gives number low high n = field-gives number n λ k h. range-in low high k
 
   thread-gives : (vars : ℕ) → Gives (ThreadIn vars) (thread bytes vars)
   unfolding thread instruction
   thread-gives vars =
-      then-gives (range-gives _ _ _) λ n most.
+      then-gives (range-gives 4 _ _ (listed 4 tt)) λ n most.
       gives-map (λ code h. (omega arith, rw (h .0) (h .1)))
-      (times-gives n (item-gives bytes _ _ λ at. instruction-in vars n _ _ _ (byte-in (at + 3)) (byte bytes at)))
+      (times-gives n (item-gives bytes 4 4 (listed 4 tt) λ at. instruction-in vars n _ _ _ (byte-in (at + 3)) (byte bytes at)))
 
   fields-give : Gives JobIn (fields bytes)
   unfolding fields clause
   fields-give =
-      then-gives (range-gives _ _ _) λ version _.
-      then-gives (field-gives _ λ k h. anything _) λ model _.
-      then-gives (field-gives _ λ k h. capacity-in model k) λ capacity capacity-is.
-      then-gives (range-gives _ _ _) λ count count-is.
-      then-gives (range-gives _ _ _) λ vars vars-is.
-      then-gives (times-gives vars (field-gives _ λ k h. of-some h)) λ initial initial-is.
+      then-gives (range-gives 2 _ _ (listed 2 tt)) λ version _.
+      then-gives (field-gives 3 (listed 3 tt) λ k h. anything _) λ model _.
+      then-gives (field-gives 3 (listed 3 tt) λ k h. capacity-in model k) λ capacity capacity-is.
+      then-gives (range-gives 3 _ _ (listed 3 tt)) λ count count-is.
+      then-gives (range-gives 3 _ _ (listed 3 tt)) λ vars vars-is.
+      then-gives (times-gives vars (field-gives 6 (listed 6 tt) λ k h. of-some h)) λ initial initial-is.
       then-gives (times-gives count (thread-gives vars)) λ threads threads-are.
-      then-gives (field-gives _ λ k h. anything _) λ flag _.
-      then-gives (range-gives _ _ _) λ K K-is.
+      then-gives (field-gives 5 (listed 5 tt) λ k h. anything _) λ flag _.
+      then-gives (range-gives 5 _ _ (listed 5 tt)) λ K K-is.
       then-gives
-      (times-gives K (item-gives bytes _ _ λ at. clause-in vars threads _ _ _ (byte-in (at + 3)) (byte bytes at)))
+      (times-gives K (item-gives bytes 4 5 (listed 5 tt) λ at. clause-in vars threads _ _ _ (byte-in (at + 3)) (byte bytes at)))
       λ clauses clauses-are.
       ended-gives bytes _
       (record {
@@ -179,18 +189,24 @@ module _ (bytes : List ℕ) (small : All (λ k. k < values) bytes) where
         clauses = rw (initial-is .0) (clauses-are .1);
       })
 
--- a function here, so that `subst` carries it along the equation
-abbrev IfAccepted : (Job → Type 0) → Decoded → Type 0
-IfAccepted P (accepted j) = P j
-IfAccepted P (refused number offset) = Unit {0}
+-- what the decoder's answer shows. A function here, so that `subst` carries it along the equation
+abbrev Shows : Decoded → Type 0
+Shows (accepted j) = JobIn j
+Shows (refused number offset) = Listed number
 
-verdict-in : (b : Bool) (x : Read Job) → IfGot JobIn x → IfAccepted JobIn (cond b (verdict x) (refused 1 0))
-unfolding verdict
-verdict-in false x h = tt
-verdict-in true x of-fault = tt
-verdict-in true x (of-got p) = p
+decoded-shows : (b : Bool) (x : Read Job) → IfGot JobIn x → Shows (cond b (decoded x) (refused 1 0))
+unfolding decoded
+decoded-shows false x h = listed 1 tt
+decoded-shows true x (of-fault n) = n
+decoded-shows true x (of-got p) = p
 
-pub accepted-in : (bytes : List ℕ) → All (λ k. k < values) bytes → (j : Job) → decode bytes ≡ accepted j → JobIn j
-unfolding decode
-accepted-in bytes small j e =
-    subst (IfAccepted JobIn) e (verdict-in (length-ok bytes) (fields bytes 2) (fields-give bytes small 2))
+module _ (bytes : List ℕ) (small : All (λ k. k < values) bytes) where
+  shows : Shows (decode bytes)
+  unfolding decode
+  shows = decoded-shows (length-ok bytes) (fields bytes 2) (fields-give bytes small 2)
+
+  pub accepted-in : (j : Job) → decode bytes ≡ accepted j → JobIn j
+  accepted-in j e = subst Shows e shows
+
+  pub refused-by : (number offset : ℕ) → decode bytes ≡ refused number offset → Listed number
+  refused-by number offset e = subst Shows e shows

@@ -153,10 +153,10 @@ pub data Decoded : Type 0 where
   accepted : Job → Decoded
   refused : (number offset : ℕ) → Decoded
 
-unfoldable pub verdict : Read Job → Decoded
-verdict (got j at) = accepted j
-verdict (fault number offset) = refused number offset
+unfoldable pub decoded : Read Job → Decoded
+decoded (got j at) = accepted j
+decoded (fault number offset) = refused number offset
 
 -- "1 is judged first"
 unfoldable pub decode : List ℕ → Decoded
-decode bytes = cond (length-ok bytes) (verdict (fields bytes 2)) (refused 1 0)
+decode bytes = cond (length-ok bytes) (decoded (fields bytes 2)) (refused 1 0)

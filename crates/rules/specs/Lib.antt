@@ -1,4 +1,4 @@
--- The machine and the job file of 01, in the paper's order: numbers, state, steps, goal, the file, slots, replay, fences.
+-- The machine and the job file of 01, in the paper's order: numbers, state, steps, goal, the file, slots, fences; then their laws.
 pub mod Limits
 pub mod State
 pub mod Job

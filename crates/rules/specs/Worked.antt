@@ -2,11 +2,10 @@
 use mathlib.Core.Path.{_≡_, refl, sym, ap, subst}
 use mathlib.Core.Bool.{Bool, true, false, _&&_}
 use mathlib.Core.List.{List, [], _∷_, _++_}
-use mathlib.Core.Option.{Option, none, some}
 use Prim.Native.Nat.{ℕ, suc, _≤_}
 use native.Mathlib.Omega.{arith}
 use lib.Dec.{T, eqb, leb, eqb→eq, leb→le}
-use lib.ListN.{length, set, replicate}
+use lib.ListN.{length, set, take, replicate}
 use Rattle.reach.specs.Lists.{All}
 use Rattle.reach.specs.System.{System}
 use Rattle.reach.specs.Meaning.{LeadsTo, AtMost, Reached, Counts, Answer, reachable, unreachable, unknown, Outcome, MeansAt}
@@ -25,9 +24,10 @@ use Rattle.rules.specs.Step.{buffered, stored, executed, execute, flush,
 use Rattle.rules.specs.Goal.{every, clause-holds, goal}
 use Rattle.rules.specs.File.{after, _>>=_, done, times, judged, byte, item, field, model-of, in-range, capacity-of, register-ok, zero-ok}
 use Rattle.rules.specs.File.{instruction-of, instruction, thread, flag-of, clause-of, clause, ended, fields, length-ok}
-use Rattle.rules.specs.File.{Decoded, accepted, refused, verdict, decode}
+use Rattle.rules.specs.File.{Decoded, accepted, refused, decoded, decode}
 use Rattle.rules.specs.Tests.{both, three}
-use Rattle.rules.specs.Jobs.{p1, p2, p3, p4, p5, p6, p7, p8, p9, p10, p12, own-newest, fence-waits, exchange, jump-over, either-order, oldest-first, stored-register, exchange-between, ends-and-moves, back-around, past-a-load, next-of-two, over-a-fence, cut, cut-unknown, left-over}
+use Rattle.rules.specs.Jobs.{p1, p2, p3, p4, p5, p6, p7, p8, p9, p10, p12, own-newest, fence-waits, exchange, jump-over, either-order, oldest-first, stored-register, exchange-between, ends-and-moves, back-around, past-a-load, next-of-two, over-a-fence}
+use Rattle.rules.specs.Jobs.{in-memory, other-registers, widest, eight-sets, thirty-two, four-clauses, full-thread, fullest, too-long, cut, cut-unknown, left-over}
 use Rattle.rules.specs.Machine.{machine, same-list-equal}
 use Rattle.rules.specs.Fences.{onward, onward-at, successors, is-store, is-load, is-fence, Fenced, fenced, open-at, FenceMeans}
 use Rattle.rules.specs.FenceCheck.{move, targets-below, landings, found, leads, or-else, first-below, open-test, open-loads, open-stores}
@@ -36,7 +36,7 @@ use Rattle.rules.specs.FenceCheck.{open-threads, fence-answer, fence-che
 -- what the list says of a job
 pub data Claim : Type 0 where
   search-reaches : (states : ℕ) (schedule : List ℕ) → Claim
-  search-never : (states : Option ℕ) → Claim
+  search-never : (states : ℕ) → Claim
   search-unknown : Claim
   fences-say : Fenced → Claim
   replay-says : (schedule : List ℕ) → Replayed → Claim
@@ -62,22 +62,22 @@ table =
     -- OPEN 0 0 1
     ∷ case 640 p1 (fences-say (open-at 0 0 1))
     -- P2: unreachable, 13 states
-    ∷ case 640 p2 (search-never (some 13))
+    ∷ case 640 p2 (search-never 13)
     -- P3: 6 steps `00 00 01 01 04 0D`, 34 states
     ∷ case 640 p3 (search-reaches 34 (0x00 ∷ 0x00 ∷ 0x01 ∷ 0x01 ∷ 0x04 ∷ 0x0D ∷ []))
     -- P4: unreachable, 5 states
-    ∷ case 640 p4 (search-never (some 5))
+    ∷ case 640 p4 (search-never 5)
     -- P5: 2 steps, 3 states
     ∷ case 640 p5 (search-reaches 3 (0x00 ∷ 0x00 ∷ []))
     -- P6: `00 00 05 01 01`
     ∷ case 640 p6 (search-reaches 25 (0x00 ∷ 0x00 ∷ 0x05 ∷ 0x01 ∷ 0x01 ∷ []))
     -- P7: unreachable
-    ∷ case 640 p7 (search-never none)
+    ∷ case 640 p7 (search-never 20)
     -- P8: unreachable
-    ∷ case 640 p8 (search-never none)
+    ∷ case 640 p8 (search-never 23)
     -- P9: FENCED, unreachable
     ∷ case 640 p9 (fences-say fenced)
-    ∷ case 640 p9 (search-never none)
+    ∷ case 640 p9 (search-never 31)
     -- P10: replay `00 00` is stuck at 1
     ∷ case 640 p10 (replay-says (0x00 ∷ 0x00 ∷ []) (stuck 1))
     -- P11: replay `24` is stuck at 0
@@ -92,13 +92,13 @@ table =
     ∷ case 640 (0x00 ∷ 0x01 ∷ 0x01 ∷ []) (refuses 6 3)
     -- P1 with byte 10 set to 0A: REFUSED 4 10
     ∷ case 640 (set p1 10 0x0A) (refuses 4 10)
-    -- beyond the list; these counts were worked by a checker written apart, as was the 25 of P6
-    ∷ case 640 own-newest (search-never (some 9))
+    -- beyond the list; these counts were worked by a checker written apart, as were the 25, 20, 23 and 31 of P6 to P9
+    ∷ case 640 own-newest (search-never 9)
     ∷ case 640 fence-waits (search-reaches 4 (0x00 ∷ 0x04 ∷ 0x00 ∷ []))
     ∷ case 640 exchange (search-reaches 5 (0x00 ∷ 0x00 ∷ 0x04 ∷ 0x00 ∷ []))
     ∷ case 640 jump-over (search-reaches 3 (0x00 ∷ 0x00 ∷ []))
-    ∷ case 640 either-order (search-never (some 59))
-    ∷ case 640 oldest-first (search-never (some 6))
+    ∷ case 640 either-order (search-never 59)
+    ∷ case 640 oldest-first (search-never 6)
     ∷ case 640 stored-register (search-reaches 3 (0x00 ∷ 0x00 ∷ []))
     ∷ case 640 exchange-between (fences-say fenced)
     ∷ case 640 ends-and-moves (fences-say fenced)
@@ -120,6 +120,68 @@ table =
     ∷ case 640 cut (refuses 6 10)
     ∷ case 640 cut-unknown (refuses 6 10)
     ∷ case 640 left-over (refuses 6 45)
+    -- a clause reads memory, not a buffer, and the variable that it names; registers and variables other than 0; the most of each
+    ∷ case 640 in-memory (search-reaches 3 (0x00 ∷ 0x05 ∷ []))
+    ∷ case 640 other-registers (search-reaches 7 (0x00 ∷ 0x00 ∷ 0x00 ∷ 0x00 ∷ 0x00 ∷ 0x00 ∷ []))
+    ∷ case 640 (set other-registers 28 0x07) (search-never 6)
+    ∷ case 640 widest (search-reaches 16 (0x00 ∷ 0x01 ∷ 0x02 ∷ 0x03 ∷ []))
+    ∷ case 640 thirty-two (search-reaches 33 (replicate 32 0x00))
+    ∷ case 640 fullest (replay-says [] reaches)
+    ∷ case 640 (set p1 4 0x08) (search-reaches 22 (0x00 ∷ 0x00 ∷ 0x01 ∷ 0x01 ∷ []))
+    -- length and version
+    ∷ case 640 too-long (refuses 1 0)
+    ∷ case 640 (set p1 1 0x2C) (refuses 1 0)
+    ∷ case 640 (set p1 0 0x01) (refuses 1 0)
+    ∷ case 640 (set p1 2 0x02) (refuses 2 2)
+    -- C, T and V at the other ends of their ranges
+    ∷ case 640 (set p1 4 0x00) (refuses 3 4)
+    ∷ case 640 (set p6 4 0x00) (refuses 3 4)
+    ∷ case 640 (set p6 4 0x09) (refuses 3 4)
+    ∷ case 640 (set p1 5 0x00) (refuses 3 5)
+    ∷ case 640 (set p1 6 0x09) (refuses 3 6)
+    -- n above 32, an operation that is none; of each operation a register, variable or place out of range, and a byte that must be 0
+    ∷ case 640 (set thirty-two 8 0x21) (refuses 4 8)
+    ∷ case 640 (set p1 10 0xFF) (refuses 4 10)
+    ∷ case 640 (set other-registers 11 0x04) (refuses 4 10)
+    ∷ case 640 (set other-registers 12 0x01) (refuses 4 10)
+    ∷ case 640 (set other-registers 15 0x04) (refuses 4 14)
+    ∷ case 640 (set other-registers 16 0x01) (refuses 4 14)
+    ∷ case 640 (set other-registers 19 0x04) (refuses 4 18)
+    ∷ case 640 (set other-registers 20 0x02) (refuses 4 18)
+    ∷ case 640 (set other-registers 21 0x01) (refuses 4 18)
+    ∷ case 640 (set other-registers 23 0x04) (refuses 4 22)
+    ∷ case 640 (set other-registers 24 0x02) (refuses 4 22)
+    ∷ case 640 (set other-registers 25 0x01) (refuses 4 22)
+    ∷ case 640 (set other-registers 27 0x04) (refuses 4 26)
+    ∷ case 640 (set other-registers 28 0x08) (refuses 4 26)
+    ∷ case 640 (set other-registers 31 0x01) (refuses 4 30)
+    ∷ case 640 (set other-registers 32 0x08) (refuses 4 30)
+    ∷ case 640 (set other-registers 33 0x01) (refuses 4 30)
+    ∷ case 640 (set other-registers 35 0x04) (refuses 4 34)
+    ∷ case 640 (set other-registers 36 0x02) (refuses 4 34)
+    ∷ case 640 (set other-registers 37 0x01) (refuses 4 34)
+    ∷ case 640 (set p1 11 0x01) (refuses 4 10)
+    ∷ case 640 (set p1 12 0x02) (refuses 4 10)
+    ∷ case 640 (set p9 15 0x01) (refuses 4 14)
+    ∷ case 640 (set p9 16 0x01) (refuses 4 14)
+    ∷ case 640 (set p9 17 0x01) (refuses 4 14)
+    -- clauses that are none: the kind; thread, place, register, variable and the byte that must be 0 of each kind
+    ∷ case 640 (set other-registers 40 0x00) (refuses 5 40)
+    ∷ case 640 (set other-registers 40 0xFF) (refuses 5 40)
+    ∷ case 640 (set other-registers 41 0x01) (refuses 5 40)
+    ∷ case 640 (set other-registers 42 0x01) (refuses 5 40)
+    ∷ case 640 (set other-registers 43 0x08) (refuses 5 40)
+    ∷ case 640 (set other-registers 45 0x01) (refuses 5 44)
+    ∷ case 640 (set other-registers 46 0x04) (refuses 5 44)
+    ∷ case 640 (set other-registers 53 0x02) (refuses 5 52)
+    ∷ case 640 (set other-registers 54 0x01) (refuses 5 52)
+    -- each item cut off: V, an initial value, n, flag, K, a clause
+    ∷ case 640 (set (take 6 p1) 1 4) (refuses 6 6)
+    ∷ case 640 (set (take 8 p1) 1 6) (refuses 6 8)
+    ∷ case 640 (set (take 18 p1) 1 16) (refuses 6 18)
+    ∷ case 640 (set (take 27 p1) 1 25) (refuses 6 27)
+    ∷ case 640 (set (take 28 p1) 1 26) (refuses 6 28)
+    ∷ case 640 (set (take 43 p1) 1 41) (refuses 6 41)
     ∷ []
 
 -- What each claim means: distance, first schedule, counts, never, walks, runs; no computed function is named.
@@ -130,8 +192,7 @@ module _ (j : Job) (N : ℕ) where
 
   abbrev pub Says : Claim → Type 0
   Says (search-reaches n w) = Brings (machine j) (length w) w × Counts (AtMost (machine j) (length w)) n × (n ≤ N)
-  Says (search-never none) = Never
-  Says (search-never (some n)) = Never × Counts (Reached (machine j)) n × (n ≤ N)
+  Says (search-never n) = Never × Counts (Reached (machine j)) n × (n ≤ N)
   Says search-unknown = Outnumber (machine j) N
   Says (fences-say a) = FenceMeans j a
   Says (replay-says w a) = ReplayMeans (machine j) w a
@@ -152,10 +213,9 @@ answer-reaches d n (reachable e m) = eqb d e && eqb n m
 answer-reaches d n (unreachable m) = false
 answer-reaches d n (unknown m) = false
 
-answer-never : Option ℕ → Answer → Bool
+answer-never : ℕ → Answer → Bool
 answer-never n (reachable e m) = false
-answer-never none (unreachable m) = true
-answer-never (some n) (unreachable m) = eqb n m
+answer-never n (unreachable m) = eqb n m
 answer-never n (unknown m) = false
 
 answer-unknown : Answer → Bool
@@ -228,21 +288,20 @@ module _ (j : Job) (N : ℕ) where
       which (unreachable m) e t = absurd t
       which (unknown m) e t = absurd t
 
-  never-right : (n : Option ℕ) → 1 ≤ N → T (answer-never n (find (machine j) N .answer)) → Says j N (search-never n)
+  never-right : (n : ℕ) → 1 ≤ N → T (answer-never n (find (machine j) N .answer)) → Says j N (search-never n)
   unfolding answer-never
-  never-right n h t = which n (find (machine j) N .answer) refl t
+  never-right n h t = which (find (machine j) N .answer) refl t
     where
-      which : (n : Option ℕ) (a : Answer) → find (machine j) N .answer ≡ a → T (answer-never n a) → Says j N (search-never n)
-      which n (reachable d m) e t = absurd t
-      which none (unreachable m) e t = never (machine j) N m (find (machine j) N) (means h (unreachable m) e)
-      which (some n) (unreachable m) e t =
+      which : (a : Answer) → find (machine j) N .answer ≡ a → T (answer-never n a) → Says j N (search-never n)
+      which (reachable d m) e t = absurd t
+      which (unreachable m) e t =
           let r = means h (unreachable m) e in
           let k : m ≡ n = sym (eqb→eq n m t) in (
             never (machine j) N m (find (machine j) N) r,
             subst (λ z. Counts (Reached (machine j)) z) k (r .counted),
             subst (λ z. z ≤ N) k (r .fits),
           )
-      which n (unknown m) e t = absurd t
+      which (unknown m) e t = absurd t
 
   unknown-right : 1 ≤ N → T (answer-unknown (find (machine j) N .answer)) → Says j N search-unknown
   unfolding answer-unknown
@@ -322,7 +381,7 @@ all-right (c ∷ l) t =
     (decoded-right (c .slots) (c .claim) (decode (c .bytes)) (p .0), all-right l (p .1))
 
 computed : T (every case-test table)
-unfolding every case-test table p1 p2 p3 p4 p5 p6 p7 p8 p9 p10 p12 own-newest fence-waits exchange jump-over either-order oldest-first stored-register exchange-between ends-and-moves back-around past-a-load next-of-two over-a-fence cut cut-unknown left-over decoded-test claim-test refusal-test answer-reaches answer-never answer-unknown same-fenced same-replayed place register variable buffer with-place with-register with-variable with-buffer same-list same-pending same-state start newest by-variable joined take-oldest behind take-oldest-to taken is-empty advanced carried buffered stored executed execute flush next clause-holds goal start-row offer-of offer offers-below offers known goal-row keep keep-new put-unless put put-all outcome by-goal by-rest by-room levels find decode after _>>=_ done times judged byte item field model-of in-range capacity-of register-ok zero-ok instruction-of instruction thread flag-of clause-of clause ended fields length-ok verdict onward onward-at successors is-store is-load is-fence move targets-below landings found leads or-else first-below open-test open-loads open-stores open-threads fence-answer fence-check at-end replay-from replay
+unfolding every case-test table p1 p2 p3 p4 p5 p6 p7 p8 p9 p10 p12 own-newest fence-waits exchange jump-over either-order oldest-first stored-register exchange-between ends-and-moves back-around past-a-load next-of-two over-a-fence in-memory other-registers widest eight-sets thirty-two four-clauses full-thread fullest too-long cut cut-unknown left-over decoded-test claim-test refusal-test answer-reaches answer-never answer-unknown same-fenced same-replayed place register variable buffer with-place with-register with-variable with-buffer same-list same-pending same-state start newest by-variable joined take-oldest behind take-oldest-to taken is-empty advanced carried buffered stored executed execute flush next clause-holds goal start-row offer-of offer offers-below offers known goal-row keep keep-new put-unless put put-all outcome by-goal by-rest by-room levels find decode after _>>=_ done times judged byte item field model-of in-range capacity-of register-ok zero-ok instruction-of instruction thread flag-of clause-of clause ended fields length-ok decoded onward onward-at successors is-store is-load is-fence move targets-below landings found leads or-else first-below open-test open-loads open-stores open-threads fence-answer fence-check at-end replay-from replay
 computed = tt
 
 -- every case of the table holds

@@ -25,6 +25,7 @@ use Rattle.rules.specs.Job.{Job, start}
 use Rattle.rules.specs.Slot.{slot-bytes}
 use Rattle.rules.specs.Sound.{JobIn, WellFormed}
 use Rattle.rules.specs.SlotLaws.{slot-bytes-number, slot-bytes-equal}
+use Rattle.slot.specs.Table.{slot-at}
 use Rattle.rules.specs.Keeps.{run-well-formed}
 use Rattle.rules.specs.Machine.{machine}
 
@@ -34,10 +35,6 @@ pub record Memory : Type 0 where
   pub links : List ℕ
   pub count : ℕ
   pub full : Bool
-
--- the bytes of slot i
-abbrev pub slot-at : List ℕ → ℕ → List ℕ
-slot-at t i = take slot-size (drop (slot-size * i) t)
 
 -- N slots fit in the table and among the links as they were lent
 pub record Lends (N : ℕ) (t l : List ℕ) : Type 0 where

@@ -18,8 +18,9 @@ use Rattle.job.specs.declared.Layout.{Layout}
 use Rattle.machine.specs.Held.{held, StateOk}
 use Rattle.machine.specs.declared.State.{State}
 use Rattle.slot.specs.Bytes.{state-bytes}
+use Rattle.slot.specs.Table.{slot-at}
 use Rattle.engine.specs.At.{At}
-use Rattle.search.specs.Kept.{Memory, slot-at, Lends, Kept}
+use Rattle.search.specs.Kept.{Memory, Lends, Kept}
 use Rattle.search.specs.Expand.{one-step}
 use Rattle.search.specs.declared.Front.{Front}
 

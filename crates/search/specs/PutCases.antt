@@ -19,8 +19,8 @@ use Rattle.machine.specs.Held.{held, StateOk}
 use Rattle.machine.specs.declared.State.{State}
 use Rattle.slot.specs.Bytes.{state-bytes}
 use Rattle.slot.specs.StateHeld.{state-bytes-held}
-use Rattle.slot.specs.Table.{Written, with-slot}
-use Rattle.search.specs.Kept.{Memory, slot-at, Lends, Kept, put-memory, kept-full, kept-known, kept-none-left, kept-new, found-known, missed-unknown}
+use Rattle.slot.specs.Table.{slot-at, Written, with-slot}
+use Rattle.search.specs.Kept.{Memory, Lends, Kept, put-memory, kept-full, kept-known, kept-none-left, kept-new, found-known, missed-unknown}
 use Rattle.search.specs.Loops.{memory, Fits, Looked, Carries, Onward, PutDone}
 use Rattle.search.specs.declared.Front.{Front}
 

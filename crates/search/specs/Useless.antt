@@ -3,10 +3,11 @@ use mathlib.Core.Path.{_≡_, refl, sym, _∙_, ap, subst}
 use mathlib.Core.Bool.{true, false}
 use mathlib.Core.List.{List, [], _∷_, _++_}
 use mathlib.Core.Option.{some}
-use Prim.Native.Nat.{ℕ, suc, _≤_}
+use Prim.Native.Nat.{ℕ, suc, _*_, _≤_}
 use native.Mathlib.Omega.{arith}
-use lib.ListN.{length, getD, drop}
+use lib.ListN.{length, getD, take, drop, replicate}
 use Rattle.reach.specs.Meaning.{reachable, no-link}
+use Rattle.reach.specs.Stored.{slots-bytes}
 use Rattle.reach.specs.Unique.{one-outcome}
 use Rattle.reach.specs.Found.{find-means}
 use Rattle.reach.specs.Rows.{start-row, offer-of, offer, offers-below, offers, known, goal-row, keep, keep-new, put-unless, put, put-all}
@@ -19,7 +20,9 @@ use Rattle.rules.specs.Step.{buffered, stored, executed, execute, flush, next}
 use Rattle.rules.specs.Goal.{every, clause-holds, goal}
 use Rattle.rules.specs.File.{after, _>>=_, done, times, judged, byte, item, field, model-of, in-range, capacity-of, register-ok, zero-ok}
 use Rattle.rules.specs.File.{instruction-of, instruction, thread, flag-of, clause-of, clause, ended, fields, length-ok}
-use Rattle.rules.specs.File.{Decoded, accepted, refused, verdict, decode}
+use Rattle.rules.specs.File.{Decoded, accepted, refused, decoded, decode}
+use Rattle.rules.specs.Limits.{slot-size}
+use Rattle.rules.specs.Slot.{pair-bytes, buffer-bytes, buffers-bytes, slot-bytes}
 use Rattle.rules.specs.Machine.{machine}
 use Rattle.rules.specs.Jobs.{p1}
 use Rattle.rules.specs.declared.Model.the-variants.{Tso}
@@ -41,8 +44,15 @@ store-buffering =
     }
 
 p1-is : decode p1 ≡ accepted store-buffering
-unfolding p1 store-buffering decode after _>>=_ done times judged byte item field model-of in-range capacity-of register-ok zero-ok instruction-of instruction thread flag-of clause-of clause ended fields length-ok verdict
+unfolding p1 store-buffering decode after _>>=_ done times judged byte item field model-of in-range capacity-of register-ok zero-ok instruction-of instruction thread flag-of clause-of clause ended fields length-ok decoded
 p1-is = refl
+
+-- 96 bytes each: places, registers, memory, four buffers
+unfoldable pub start-slot : List ℕ
+start-slot = replicate 96 0
+
+unfoldable pub stored-slot : List ℕ
+stored-slot = (1 ∷ []) ++ replicate 27 0 ++ (1 ∷ 0 ∷ 1 ∷ []) ++ replicate 65 0
 
 p1-found : find (machine store-buffering) 640 .answer ≡ reachable 4 22
 unfolding store-buffering place register variable buffer with-place with-register with-variable with-buffer same-list same-pending same-state start newest by-variable joined take-oldest behind take-oldest-to taken is-empty advanced carried buffered stored executed execute flush next every clause-holds goal start-row offer-of offer offers-below offers known goal-row keep keep-new put-unless put put-all outcome by-goal by-rest by-room levels find
@@ -51,6 +61,11 @@ p1-found = refl
 p1-first-link : (rest : List ℕ) → getD (find (machine store-buffering) 640 .links ++ rest) 0 0 ≡ no-link
 unfolding store-buffering place register variable buffer with-place with-register with-variable with-buffer same-list same-pending same-state start newest by-variable joined take-oldest behind take-oldest-to taken is-empty advanced carried buffered stored executed execute flush next every clause-holds goal start-row offer-of offer offers-below offers known goal-row keep keep-new put-unless put put-all outcome by-goal by-rest by-room levels find
 p1-first-link rest = refl
+
+-- slot 0 is the start, slot 1 the state after thread 0's store: both threads at place 0; then thread 0 at place 1, with x=1 pending
+p1-first-slots : (rest : List ℕ) → take 192 (slots-bytes slot-bytes (find (machine store-buffering) 640 .slots) ++ rest) ≡ start-slot ++ stored-slot
+unfolding start-slot stored-slot slots-bytes slot-bytes buffers-bytes buffer-bytes pair-bytes store-buffering place register variable buffer with-place with-register with-variable with-buffer same-list same-pending same-state start newest by-variable joined take-oldest behind take-oldest-to taken is-empty advanced carried buffered stored executed execute flush next every clause-holds goal start-row offer-of offer offers-below offers known goal-row keep keep-new put-unless put put-all outcome by-goal by-rest by-room levels find
+p1-first-slots rest = refl
 
 -- with 640 slots the promise for P1 allows one answer only: refusals, unknown, unreachable and other counts break it
 module _ (m m′ : Lent) (ws : List ℕ) (slots : slots-lent m ≡ 640) (h : SearchMeans p1 m ws m′) where
@@ -65,9 +80,15 @@ module _ (m m′ : Lent) (ws : List ℕ) (slots : slots-lent m ≡ 640) (h : Sea
   pub p1-answer : ws ≡ 1 ∷ 4 ∷ 22 ∷ 0 ∷ []
   p1-answer = answered .answer ∙ ap (λ o. answer-words (o .answer)) is-found ∙ ap answer-words p1-found
 
-  -- the first link is written, so a search that writes nothing breaks it wherever that link was not there before
-  pub p1-writes : getD (m′ .links) 0 0 ≡ no-link
+  -- the first link and the first two slots are written, so a search that writes no link or no slot breaks it wherever these were not
+  -- there before
+  pub p1-writes : (getD (m′ .links) 0 0 ≡ no-link) × (take 192 (m′ .table) ≡ start-slot ++ stored-slot)
   p1-writes =
       let o = answered .outcome in
       let kept = drop (length (o .links)) (m .links) in
-      ap (λ z. getD (z .links) 0 0) (answered .buffers) ∙ ap (λ z. getD (z .links ++ kept) 0 0) is-found ∙ p1-first-link kept
+      let beyond = drop (slot-size * length (o .slots)) (m .table) in (
+        ap (λ z. getD (z .links) 0 0) (answered .buffers) ∙ ap (λ z. getD (z .links ++ kept) 0 0) is-found ∙ p1-first-link kept,
+        ap (λ z. take 192 (z .table)) (answered .buffers)
+            ∙ ap (λ z. take 192 (slots-bytes slot-bytes (z .slots) ++ beyond)) is-found
+            ∙ p1-first-slots beyond,
+      )

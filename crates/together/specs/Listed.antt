@@ -3,7 +3,6 @@
 -- a replay that always says "reaches" at P10.
 use mathlib.Core.Path.{_≡_, refl, sym, _∙_, ap, subst}
 use mathlib.Core.List.{List}
-use mathlib.Core.Option.{none, some}
 use Prim.Native.Nat.{ℕ, zero, suc, _≤_}
 use native.Mathlib.Omega.{arith}
 use lib.ListN.{length, take, drop}
@@ -78,8 +77,7 @@ module _ (bytes : List ℕ) (N : ℕ) where
 
   abbrev pub Fixes : Claim → Type 0
   Fixes (search-reaches n w) = Searched (λ ws m′. (ws ≡ reachable-words (length w) n) × (take (length w) (m′ .schedule) ≡ w))
-  Fixes (search-never none) = Unit {0}
-  Fixes (search-never (some n)) = Searched (λ ws m′. ws ≡ unreachable-words n)
+  Fixes (search-never n) = Searched (λ ws m′. ws ≡ unreachable-words n)
   Fixes search-unknown = Searched (λ ws m′. ws ≡ search.answer-words (unknown N))
   Fixes (fences-say a) = (ws : List ℕ) → fences.FencesMean bytes ws → ws ≡ fences.checked-words a
   Fixes (replay-says w a) = (ws : List ℕ) → replay.ReplayMeans bytes w ws → ws ≡ replay.replayed-words a
@@ -99,8 +97,7 @@ module _ (bytes : List ℕ) (N : ℕ) where
             ∙ take-at (o .schedule) (drop (length (o .schedule)) (m .schedule)) (length w) (ap length (f .1))
             ∙ f .1,
       ))
-  fixed-accepted some-slot j is (search-never none) h = tt
-  fixed-accepted some-slot j is (search-never (some n)) h =
+  fixed-accepted some-slot j is (search-never n) h =
       λ m m′ ws slots k.
       (let x = answered bytes j is N some-slot m m′ ws slots k in
       let nowhere : NoGoal (machine j) = λ y g r. h .0 (r .way) y (r .leads) g in

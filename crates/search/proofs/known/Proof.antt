@@ -5,7 +5,7 @@ use Prim.Native.Nat.{ℕ, _≤_, _<_, _-_}
 use native.Mathlib.Omega.{arith}
 use borrow.Author.Count.{below-more}
 use Rattle.slot.specs.Bytes.{state-bytes}
-use Rattle.search.specs.Kept.{slot-at}
+use Rattle.slot.specs.Table.{slot-at}
 use Rattle.search.proofs.known.Statement.{statement}
 use Rattle.search.proofs.known.Tie as tie
 
