@@ -285,7 +285,7 @@ impl Tally {
             .map(|class| self.counted(DISTANCE, class))
             .sum();
         text += &format!(
-            "{:20} greatest {}, {far} of 5 or more; the largest search counted {} states\n",
+            "{:20} the greatest distance {}, {far} of 5 or more; the largest search counted {} states\n",
             "", self.greatest_distance, self.most_states
         );
         text

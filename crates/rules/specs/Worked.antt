@@ -2,7 +2,7 @@
 use mathlib.Core.Path.{_≡_, refl, sym, ap, subst}
 use mathlib.Core.Bool.{Bool, true, false, _&&_}
 use mathlib.Core.List.{List, [], _∷_, _++_}
-use Prim.Native.Nat.{ℕ, suc, _≤_}
+use Prim.Native.Nat.{ℕ, suc, _+_, _^_, _≤_}
 use native.Mathlib.Omega.{arith}
 use lib.Dec.{T, eqb, leb, eqb→eq, leb→le}
 use lib.ListN.{length, set, take, replicate}
@@ -20,7 +20,7 @@ use Rattle.rules.specs.State.{State, place, register, variable, buffer, 
 use Rattle.rules.specs.State.{same-list, same-pending, same-state}
 use Rattle.rules.specs.Job.{Job, start}
 use Rattle.rules.specs.Step.{newest, by-variable, joined, take-oldest, behind, take-oldest-to, taken, is-empty, advanced, carried}
-use Rattle.rules.specs.Step.{buffered, stored, executed, execute, flush, next}
+use Rattle.rules.specs.Step.{buffered, stored, executed, execute, flush, next, enabled-below, enabled}
 use Rattle.rules.specs.Goal.{every, clause-holds, goal}
 use Rattle.rules.specs.File.{after, _>>=_, done, times, judged, byte, item, field, model-of, in-range, capacity-of, register-ok, zero-ok}
 use Rattle.rules.specs.File.{instruction-of, instruction, thread, flag-of, clause-of, clause, ended, fields, length-ok}
@@ -401,6 +401,16 @@ one-pending =
       memory = replicate 8 0;
       buffers = (record { variable = 0; value = 1 } ∷ []) ∷ [] ∷ [] ∷ [] ∷ [];
     }
+
+-- "bit s is set when step s may be taken": P1 at its start, where steps 0 and 1 may be taken, and in the state above, where thread 0's
+-- store may be flushed too, step 4
+unfoldable pub mask-of : (Job → State) → Decoded → ℕ
+mask-of x (accepted j) = enabled j (x j)
+mask-of x (refused number offset) = 0
+
+pub mask-is : (mask-of start (decode p1) ≡ 2 ^ 0 + 2 ^ 1) × (mask-of (λ j. one-pending) (decode p1) ≡ 2 ^ 0 + 2 ^ 1 + 2 ^ 4)
+unfolding mask-of one-pending enabled enabled-below p1 place register variable buffer with-place with-register with-variable with-buffer same-list same-pending same-state start newest by-variable joined take-oldest behind take-oldest-to taken is-empty advanced carried buffered stored executed execute flush next decode after _>>=_ done times judged byte item field model-of in-range capacity-of register-ok zero-ok instruction-of instruction thread flag-of clause-of clause ended fields length-ok decoded
+mask-is = (refl, refl)
 
 pub slot-is : slot-bytes one-pending ≡ (1 ∷ 0 ∷ 0 ∷ 0 ∷ []) ++ replicate 16 0 ++ replicate 8 0 ++ (1 ∷ 0 ∷ 1 ∷ []) ++ replicate 14 0 ++ replicate 51 0
 unfolding one-pending slot-bytes buffers-bytes buffer-bytes pair-bytes
