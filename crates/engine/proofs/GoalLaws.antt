@@ -18,9 +18,9 @@ use Rattle.rules.specs.declared.Clause.the-variants.{Place, Register, Memory}
 use Rattle.rules.specs.declared.Instr.{Instr}
 use Rattle.buffer.specs.Held.{held-buffer}
 use Rattle.job.specs.Laid.{Laid, IsAccepted}
-use Rattle.job.specs.Passed.{goal-clause-of}
-use Rattle.job.specs.declared.ClauseRead.{ClauseRead}
-use Rattle.job.specs.declared.ClauseRead.the-variants.{Good, Bad}
+use Rattle.tables.specs.Told.{goal-clause-of}
+use Rattle.tables.specs.declared.ClauseRead.{ClauseRead}
+use Rattle.tables.specs.declared.ClauseRead.the-variants.{Good, Bad}
 use Rattle.job.specs.declared.Layout.{Layout}
 use Rattle.machine.specs.Held.{held, StateOk}
 use Rattle.machine.specs.declared.State.{State}

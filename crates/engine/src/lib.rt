@@ -1,12 +1,12 @@
 // The machine of a job: its start, the steps that may be taken, one step, and its goal.
 use buffer::Buf;
-use job::ClauseRead;
 use job::Layout;
 use job::PlaceRead;
 use machine::Moved;
 use machine::State;
 use rules::Clause;
 use rules::Model;
+use tables::ClauseRead;
 ghost use mathlib.Core.Path.{_≡_};
 ghost use Prim.Native.Nat.{ℕ, _+_, _*_, _^_, _<_};
 ghost use Rattle.rules.specs.Limits.{most-threads, most-variables};

@@ -11,12 +11,8 @@ use Rattle.rules.specs.declared.Clause.{Clause}
 use Rattle.rules.specs.declared.Model.{Model}
 use Rattle.job.specs.declared.ModelRead.{ModelRead}
 use Rattle.job.specs.declared.ModelRead.the-variants as ModelReads
-use Rattle.job.specs.declared.InstrRead.{InstrRead}
-use Rattle.job.specs.declared.InstrRead.the-variants as InstrReads
 use Rattle.job.specs.declared.PlaceRead.{PlaceRead}
 use Rattle.job.specs.declared.PlaceRead.the-variants as PlaceReads
-use Rattle.job.specs.declared.ClauseRead.{ClauseRead}
-use Rattle.job.specs.declared.ClauseRead.the-variants as ClauseReads
 use Rattle.job.specs.declared.Next.{Next}
 use Rattle.job.specs.declared.Next.the-variants.{At, Fault}
 
@@ -24,17 +20,9 @@ abbrev pub model-read : ModelRead → Option Model
 model-read (ModelReads.Good m) = some m
 model-read ModelReads.Bad = none
 
-abbrev pub instr-of : InstrRead → Option Instr
-instr-of (InstrReads.Good i) = some i
-instr-of InstrReads.Bad = none
-
 abbrev pub place-of : PlaceRead → Option Instr
 place-of (PlaceReads.Holds i) = some i
 place-of PlaceReads.Ended = none
-
-abbrev pub goal-clause-of : ClauseRead → Option Clause
-goal-clause-of (ClauseReads.Good c) = some c
-goal-clause-of ClauseReads.Bad = none
 
 -- what the four bytes from an offset are
 abbrev pub instruction-in-bytes : List ℕ → (vars n at : ℕ) → Option Instr

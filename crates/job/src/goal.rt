@@ -1,11 +1,10 @@
 // The readers of the goal, over threads that were accepted.
-use crate::ClauseRead;
 use crate::Layout;
 use crate::MOST_CLAUSES;
 use crate::Next;
 use crate::parts;
 use crate::read;
-use crate::table;
+use tables::ClauseRead;
 ghost use mathlib.Core.Path.{_≡_};
 ghost use mathlib.Core.Bool.{Bool};
 ghost use mathlib.Core.List.{List};
@@ -15,7 +14,8 @@ ghost use Rattle.rules.specs.File as file;
 ghost use Rattle.rules.specs.Job.{Job};
 ghost use Rattle.rules.specs.declared.Instr as DeclaredInstr;
 ghost use Rattle.rules.specs.declared.Clause as DeclaredClause;
-ghost use Rattle.job.specs.Passed.{passed, goal-clause-of, clause-in-bytes};
+ghost use Rattle.tables.specs.Told.{goal-clause-of};
+ghost use Rattle.job.specs.Passed.{passed, clause-in-bytes};
 ghost use Rattle.job.specs.Stages as stages;
 ghost use Rattle.job.specs.Threads.{ThreadsLaid};
 
@@ -30,7 +30,7 @@ pub fn clause_from(job: &[u8], l: Layout, at: usize) -> ClauseRead
     let vars = l.vars;
     let threads = l.threads;
     let n = parts::thread_length(job, l, job[at + 1]);
-    table::clause(
+    tables::clause(
         vars,
         threads,
         n,

@@ -1,12 +1,10 @@
 // The job file: any bytes in, the layout of an accepted job or the refusal's number and offset out.
-use rules::Clause;
 use rules::Instr;
 use rules::Model;
 
 mod goal; // goal.rt: the readers of the goal
 pub mod parts; // parts.rt: the parts of an accepted job
 mod read; // read.rt: the readers of the file
-pub mod table; // table.rt: what four bytes are, as an instruction and as a clause
 
 ghost use mathlib.Core.Path.{_≡_};
 ghost use mathlib.Core.Option.{some};
@@ -21,8 +19,6 @@ pub const VERSION: u8 = 1;
 pub const MOST_THREADS: u8 = 4;
 
 pub const MOST_VARIABLES: u8 = 8;
-
-pub const REGISTERS_EACH: u8 = 4;
 
 pub const MOST_PENDING: u8 = 8;
 
@@ -60,21 +56,10 @@ pub enum ModelRead {
     Bad,
 }
 
-// What four bytes are: an instruction, a clause, or neither.
-pub enum InstrRead {
-    Good(Instr),
-    Bad,
-}
-
 // What stands at a place of a thread: an instruction, or none, where the thread has ended.
 pub enum PlaceRead {
     Holds(Instr),
     Ended,
-}
-
-pub enum ClauseRead {
-    Good(Clause),
-    Bad,
 }
 
 // Reading has come to an offset, or to the first fault: its number and offset.

@@ -1,11 +1,11 @@
 // The parts of a job whose bytes were accepted, found by its layout.
-use crate::ClauseRead;
 use crate::FIRST_VALUE;
-use crate::InstrRead;
 use crate::Layout;
 use crate::PlaceRead;
 use crate::goal;
 use crate::read;
+use tables::ClauseRead;
+use tables::InstrRead;
 ghost use mathlib.Core.Path.{_≡_};
 ghost use mathlib.Core.List.{List, []};
 ghost use Prim.Native.Nat.{ℕ, _+_};
@@ -14,7 +14,8 @@ ghost use Rattle.reach.specs.System.{andThen};
 ghost use Rattle.rules.specs.Job.{Job};
 ghost use Rattle.rules.specs.declared.Instr as Declared;
 ghost use Rattle.job.specs.Laid.{code-at, Laid, IsAccepted};
-ghost use Rattle.job.specs.Passed.{place-of, goal-clause-of};
+ghost use Rattle.tables.specs.Told.{goal-clause-of};
+ghost use Rattle.job.specs.Passed.{place-of};
 ghost use Rattle.job.specs.Threads.{ThreadsLaid};
 
 fn code_start(l: Layout, t: u8) -> usize

@@ -1,5 +1,4 @@
 // The readers of the file, each from an offset: where the next item begins, or the first fault.
-use crate::InstrRead;
 use crate::LONGEST_FILE;
 use crate::LONGEST_THREAD;
 use crate::MOST_PENDING;
@@ -8,8 +7,8 @@ use crate::MOST_VARIABLES;
 use crate::ModelRead;
 use crate::Next;
 use crate::VERSION;
-use crate::table;
 use rules::Model;
+use tables::InstrRead;
 ghost use mathlib.Core.Path.{_≡_};
 ghost use mathlib.Core.Bool.{cond};
 ghost use mathlib.Core.Option.{some};
@@ -18,7 +17,8 @@ ghost use lib.Dec.{leb};
 ghost use lib.ListN.{length, getD};
 ghost use Rattle.rules.specs.File as file;
 ghost use Rattle.rules.specs.declared.Model as Declared;
-ghost use Rattle.job.specs.Passed.{passed, then, model-read, instr-of, instruction-in-bytes, begin-of};
+ghost use Rattle.tables.specs.Told.{instr-of};
+ghost use Rattle.job.specs.Passed.{passed, then, model-read, instruction-in-bytes, begin-of};
 ghost use Rattle.job.specs.Stages.{head, threads-before};
 
 pub fn wide(x: u8) -> usize
@@ -127,7 +127,7 @@ pub fn instruction_from(job: &[u8], vars: u8, n: u8, at: usize) -> InstrRead
     requires { ⌜ at + 4 ≤ length (now job) ⌝ }
     ensures { λ r. ⌜ instr-of r ≡ instruction-in-bytes (now (job .entry)) vars n at ⌝ }
 {
-    table::instruction(vars, n, job[at], job[at + 1], job[at + 2], job[at + 3])
+    tables::instruction(vars, n, job[at], job[at + 1], job[at + 2], job[at + 3])
 }
 
 // Whether four bytes are there from `at`.

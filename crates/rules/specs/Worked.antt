@@ -133,6 +133,7 @@ table =
     ∷ case 640 (set p1 1 0x2C) (refuses 1 0)
     ∷ case 640 (set p1 0 0x01) (refuses 1 0)
     ∷ case 640 (set p1 2 0x02) (refuses 2 2)
+    ∷ case 640 (set p1 2 0x00) (refuses 2 2)
     -- C, T and V at the other ends of their ranges
     ∷ case 640 (set p1 4 0x00) (refuses 3 4)
     ∷ case 640 (set p6 4 0x00) (refuses 3 4)

@@ -7,7 +7,8 @@ use borrow.Author.Needs.{needs}
 use borrow.Author.Tests.{leb-true, leb-false}
 use lib.ListN.{length}
 use Rattle.rules.specs.File.{clause, byte, judged}
-use Rattle.job.specs.Passed.{passed, goal-clause-of}
+use Rattle.tables.specs.Told.{goal-clause-of}
+use Rattle.job.specs.Passed.{passed}
 use Rattle.job.proofs.Readers.{item-judged, item-missing}
 use Rattle.job.proofs.goal.clause.Statement.{statement}
 use Rattle.job.proofs.goal.clause.Tie as tie

@@ -8,7 +8,7 @@ use lib.ListN.{length, getD, getElem?}
 use Rattle.reach.specs.System.{andThen}
 use Rattle.rules.specs.Job.{Job}
 use Rattle.job.specs.Laid.{Laid}
-use Rattle.job.specs.Passed.{instr-of}
+use Rattle.tables.specs.Told.{instr-of}
 use Rattle.job.specs.Threads.{laid-threads}
 use Rattle.job.proofs.ThreadLaws.{at-past, at-of-at, instruction-inside, instruction-is}
 use Rattle.job.proofs.parts.instruction_at.Statement.{statement}

@@ -7,7 +7,8 @@ use borrow.Author.Needs.{needs}
 use borrow.Author.Tests.{leb-true, leb-false}
 use lib.ListN.{length}
 use Rattle.rules.specs.File.{instruction, byte, judged}
-use Rattle.job.specs.Passed.{passed, instr-of}
+use Rattle.tables.specs.Told.{instr-of}
+use Rattle.job.specs.Passed.{passed}
 use Rattle.job.proofs.Readers.{item-judged, item-missing}
 use Rattle.job.proofs.read.instruction.Statement.{statement}
 use Rattle.job.proofs.read.instruction.Tie as tie

@@ -1,7 +1,7 @@
--- `job::table::keep` meets its contract: the test decides what is given.
+-- `tables::keep` meets its contract: the test decides what is given.
 use borrow.Author.Needs.{needs}
-use Rattle.job.proofs.table.keep.Statement.{statement}
-use Rattle.job.proofs.table.keep.Tie as tie
+use Rattle.tables.proofs.keep.Statement.{statement}
+use Rattle.tables.proofs.keep.Tie as tie
 
 returns : tie.Need-returns
 returns c = rw (c .if1 .taken)

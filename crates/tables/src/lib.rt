@@ -1,7 +1,4 @@
 // The tables of 01: what four bytes are as an instruction, and what they are as a clause of a goal.
-use crate::ClauseRead;
-use crate::InstrRead;
-use crate::REGISTERS_EACH;
 use rules::Clause;
 use rules::Instr;
 use rules::Source;
@@ -11,7 +8,22 @@ ghost use lib.ListN.{length, getD};
 ghost use Rattle.rules.specs.Step.{given};
 ghost use Rattle.rules.specs.File.{instruction-of, clause-of};
 ghost use Rattle.rules.specs.declared.Instr as Declared;
-ghost use Rattle.job.specs.Passed.{instr-of, goal-clause-of};
+ghost use Rattle.tables.specs.Told.{instr-of, goal-clause-of};
+
+// "4 registers a thread"
+pub const REGISTERS_EACH: u8 = 4;
+
+// What four bytes are: an instruction, or none.
+pub enum InstrRead {
+    Good(Instr),
+    Bad,
+}
+
+// What four bytes are: a clause, or none.
+pub enum ClauseRead {
+    Good(Clause),
+    Bad,
+}
 
 // The row's instruction, if its bytes are good.
 fn keep(ok: bool, i: Instr) -> InstrRead

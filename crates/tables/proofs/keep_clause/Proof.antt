@@ -1,7 +1,7 @@
--- `job::table::keep_clause` meets its contract: the test decides what is given.
+-- `tables::keep_clause` meets its contract: the test decides what is given.
 use borrow.Author.Needs.{needs}
-use Rattle.job.proofs.table.keep_clause.Statement.{statement}
-use Rattle.job.proofs.table.keep_clause.Tie as tie
+use Rattle.tables.proofs.keep_clause.Statement.{statement}
+use Rattle.tables.proofs.keep_clause.Tie as tie
 
 returns : tie.Need-returns
 returns c = rw (c .if1 .taken)

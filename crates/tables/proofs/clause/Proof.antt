@@ -1,4 +1,4 @@
--- `job::table::clause` meets its contract: each arm is its row of the table, and past the table's end nothing is given.
+-- `tables::clause` meets its contract: each arm is its row of the table, and past the table's end nothing is given.
 use mathlib.Core.Path.{_≡_}
 use mathlib.Core.List.{List}
 use mathlib.Core.Option.{none}
@@ -8,8 +8,8 @@ use borrow.Author.Needs.{needs}
 use lib.ListN.{List·getD-eq-default}
 use Rattle.rules.specs.declared.Instr.{Instr}
 use Rattle.rules.specs.File.{clause-of, register-ok, zero-ok}
-use Rattle.job.proofs.table.clause.Statement.{statement}
-use Rattle.job.proofs.table.clause.Tie as tie
+use Rattle.tables.proofs.clause.Statement.{statement}
+use Rattle.tables.proofs.clause.Tie as tie
 
 keep-clause-requires : tie.Need-keep-clause-requires
 keep-clause-requires c κs = search needs

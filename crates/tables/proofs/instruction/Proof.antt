@@ -1,4 +1,4 @@
--- `job::table::instruction` meets its contract: each arm is its row of the table, and past the table's end nothing is given.
+-- `tables::instruction` meets its contract: each arm is its row of the table, and past the table's end nothing is given.
 use mathlib.Core.Path.{_≡_}
 use mathlib.Core.Option.{none}
 use Prim.Native.Nat.{ℕ, _+_, _≤_}
@@ -6,8 +6,8 @@ use native.Mathlib.Omega.{arith}
 use borrow.Author.Needs.{needs}
 use lib.ListN.{List·getD-eq-default}
 use Rattle.rules.specs.File.{instruction-of, register-ok, zero-ok}
-use Rattle.job.proofs.table.instruction.Statement.{statement}
-use Rattle.job.proofs.table.instruction.Tie as tie
+use Rattle.tables.proofs.instruction.Statement.{statement}
+use Rattle.tables.proofs.instruction.Tie as tie
 
 keep-requires : tie.Need-keep-requires
 keep-requires c κs = search needs
