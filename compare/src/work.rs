@@ -18,31 +18,24 @@ pub fn work(job: &Job, slots: usize) -> Work {
     let mut slot_of = HashMap::from([(start.clone(), 0)]);
     let mut states = vec![start];
     let mut work = Work::default();
-    let mut full = false;
     let mut expanded = 0;
-    // Once a state was left out, its level is still expanded but nothing more is looked up.
-    while !full && expanded < states.len() {
-        let level_end = states.len();
-        for slot in expanded..level_end {
-            for (_, next) in successors(job, &states[slot]) {
-                work.steps += 1;
-                if full {
-                    continue;
-                }
-                match slot_of.get(&next) {
-                    Some(known) => work.comparisons += known + 1,
-                    None => {
-                        work.comparisons += states.len() as u64;
-                        full = states.len() == slots;
-                        if !full {
-                            slot_of.insert(next.clone(), states.len() as u64);
-                            states.push(next);
-                        }
+    // The search stops at the first state for which no slot is left.
+    'search: while expanded < states.len() {
+        for (_, next) in successors(job, &states[expanded]) {
+            work.steps += 1;
+            match slot_of.get(&next) {
+                Some(known) => work.comparisons += known + 1,
+                None => {
+                    work.comparisons += states.len() as u64;
+                    if states.len() == slots {
+                        break 'search;
                     }
+                    slot_of.insert(next.clone(), states.len() as u64);
+                    states.push(next);
                 }
             }
         }
-        expanded = level_end;
+        expanded += 1;
     }
     work.states = states.len() as u64;
     work

@@ -15,8 +15,8 @@ const MODELS: [(&str, Memory); 3] = [("SC", SC), ("TSO", [TSO, 2]), ("PSO", [PSO
 /// The rows of the table.
 const SLOTS: [usize; 3] = [640, 4096, 16_384];
 
-/// So few that looking up costs next to nothing, and a search's time is that of its steps.
-const SLOTS_FOR_STEPS: usize = 20;
+/// More than the job for a step's cost has states, so that its search ends with every step tried.
+const SLOTS_FOR_STEPS: usize = 64;
 
 const LEAST_RUNS: usize = 5;
 const LEAST_TIME: Duration = Duration::from_millis(800);
@@ -43,7 +43,7 @@ fn table() -> Result<(), String> {
     let mut costs = Vec::new();
     for (name, memory) in MODELS {
         let job = ring(memory);
-        let step_cost = step_cost(&job)?;
+        let step_cost = step_cost(&ending(memory))?;
         for slots in SLOTS {
             print_row(name, &job, slots, step_cost)?;
         }
@@ -51,8 +51,11 @@ fn table() -> Result<(), String> {
     }
     println!();
     println!("Where the library's time goes: steps, and comparisons of a slot to look a state up, are counted exactly by following");
-    println!("crates/search on the same job. A step's cost is the time of a search in {SLOTS_FOR_STEPS} slots, where hardly anything is compared,");
-    println!("by its steps: {}.", costs.join(", "));
+    println!("crates/search on the same job. A step's cost is the time of a search that ends, of two threads and at most 34 states,");
+    println!(
+        "where little is compared, by its steps: {}.",
+        costs.join(", ")
+    );
     println!("'Stepping' is steps by that cost, with reading and writing slots and the test for a goal; 'looking up' is the rest.");
     Ok(())
 }
@@ -83,6 +86,16 @@ fn ring_program(thread: u8) -> Program {
         [5, 0, thread, 0],
         [9, 0, 0, 0],
     ]
+}
+
+/// Two threads that end: each raises its flag and looks at the other's.
+fn ending(memory: Memory) -> Vec<u8> {
+    let programs: Vec<Program> = vec![
+        vec![[5, 0, 0, 1], [3, 0, 1, 0]],
+        vec![[5, 0, 1, 1], [3, 0, 0, 0]],
+    ];
+    let never = [[1, 0, 0, 0], [1, 0, 0, 1]];
+    file(memory, &[0; 2], &programs, 0, &never)
 }
 
 // ---- times ----
@@ -122,6 +135,7 @@ fn best_times<const SIDES: usize>(
     searches: [Search; SIDES],
     job: &[u8],
     slots: usize,
+    expected: [u64; 4],
 ) -> Result<[f64; SIDES], String> {
     let mut memories = Memories::new(slots);
     let mut best = [Duration::MAX; SIDES];
@@ -130,9 +144,8 @@ fn best_times<const SIDES: usize>(
     while runs < LEAST_RUNS || begin.elapsed() < LEAST_TIME {
         for (side, search) in searches.into_iter().enumerate() {
             let (answer, time) = timed(search, job, &mut memories);
-            // An unknown answer says that as many states as slots were counted.
-            if answer != [3, slots as u64, 0, 0] {
-                return Err(format!("a search in {slots} slots answered {answer:?} and not unknown; run compare to see which side is wrong"));
+            if answer != expected {
+                return Err(format!("a search in {slots} slots answered {answer:?} and not {expected:?}; run compare to see which side is wrong"));
             }
             best[side] = best[side].min(time);
         }
@@ -142,8 +155,10 @@ fn best_times<const SIDES: usize>(
 }
 
 fn print_row(name: &str, job: &[u8], slots: usize, step_cost: f64) -> Result<(), String> {
-    let [library, second] = best_times([library::search, second::search], job, slots)?;
     let work = work_of(job, slots)?;
+    // An unknown answer says that as many states as slots were counted.
+    let unknown = [3, slots as u64, 0, 0];
+    let [library, second] = best_times([library::search, second::search], job, slots, unknown)?;
     let stepping = 100.0 * step_cost * work.steps as f64 / library;
     println!(
         "{name:5} {slots:6} {library:10.6} {second:10.6} {:15.2} {:9} {:12} {stepping:8.0}% {:10.0}%",
@@ -157,8 +172,10 @@ fn print_row(name: &str, job: &[u8], slots: usize, step_cost: f64) -> Result<(),
 
 /// Seconds for one step of the library.
 fn step_cost(job: &[u8]) -> Result<f64, String> {
-    let [time] = best_times([library::search], job, SLOTS_FOR_STEPS)?;
-    Ok(time / work_of(job, SLOTS_FOR_STEPS)?.steps as f64)
+    let work = work_of(job, SLOTS_FOR_STEPS)?;
+    let unreachable = [2, work.states, 0, 0];
+    let [time] = best_times([library::search], job, SLOTS_FOR_STEPS, unreachable)?;
+    Ok(time / work.steps as f64)
 }
 
 fn work_of(job: &[u8], slots: usize) -> Result<Work, String> {

@@ -9,11 +9,11 @@ ghost use Rattle.search.specs.declared.Answer.the-variants.{Reachable};
 ghost use Rattle.bench.specs.Hex.{capital, two-digits};
 
 // One byte more than the longest job has: whatever is longer is refused, so the rest need not be read.
-const INPUT_ROOM: usize = job::LONGEST_FILE + 1;
+const INPUT_ROOM: usize = rules::LONGEST_FILE + 1;
 
 const SLOTS: usize = 640;
 
-const TABLE_SIZE: usize = SLOTS * search::SLOT_SIZE;
+const TABLE_SIZE: usize = SLOTS * rules::SLOT_SIZE;
 
 // How many bytes were read, and whether a read failed: a part of a job is not the job.
 struct Input {

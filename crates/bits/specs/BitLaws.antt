@@ -26,11 +26,6 @@ unfolding bit-of
 bit-most m zero = omega arith
 bit-most m (suc s) = bit-most (m / 2) s
 
-pub bit-cases : (m s : ℕ) → (bit-of m s ≡ 0) ⊎ (bit-of m s ≡ 1)
-unfolding bit-of
-bit-cases m zero = parity m
-bit-cases m (suc s) = bit-cases (m / 2) s
-
 pub bit-of-zero : (s : ℕ) → bit-of 0 s ≡ 0
 unfolding bit-of
 bit-of-zero zero = refl
@@ -137,10 +132,6 @@ put-beyond m x h = record { there = λ l. absurd (omega arith); kept = λ s k. k
 
 -- A mask that is built from its tests.
 
-pub mask-below-builds : (on : ℕ → Bool) → Builds on (mask-below on)
-unfolding mask-below
-mask-below-builds on = record { start = refl; more = λ s. refl }
-
 module _ (on : ℕ → Bool) (f : ℕ → ℕ) (b : Builds on f) where
   pub mask-is : (n : ℕ) → f n ≡ mask-below on n
   unfolding mask-below
@@ -236,17 +227,6 @@ pub without-cleared : (k m : ℕ) → m < 2 ^ k → bit-of (m - 2 ^ trailingZero
 unfolding bit-of
 without-cleared =
     by-lowest (λ k m t. bit-of (m - 2 ^ t) t ≡ 0) refl (λ k m e. omega arith) (λ k m t e rest. rw half-less rest)
-
--- what is left is higher
-pub lowest-rises : (k m : ℕ) → m < 2 ^ k → 0 < m → trailingZeros k m < trailingZeros k (m - 2 ^ trailingZeros k m)
-lowest-rises = by-lowest (λ k m t. 0 < m → t < trailingZeros k (m - 2 ^ t)) (λ p. absurd (omega arith)) odd even
-  where
-    odd : (k m : ℕ) → m % 2 ≡ 1 → 0 < m → 0 < trailingZeros (suc k) (m - 1)
-    odd k m e p = omega (arith, trailing-even k (m - 1) (omega arith))
-
-    even : (k m t : ℕ) → m % 2 ≡ 0 → (0 < m / 2 → t < trailingZeros k (m / 2 - 2 ^ t)) → 0 < m → suc t < trailingZeros (suc k) (m - 2 ^ suc t)
-    even k m t e rest p =
-        rw (trailing-even k (m - 2 ^ suc t) (omega (arith, pow-suc 2 t)), half-less) (omega (arith, rest (omega arith)))
 
 -- as the code clears it
 pub without-and : (k m : ℕ) → m < 2 ^ k → bitAnd m (m - 1) ≡ m - 2 ^ trailingZeros k m

@@ -1,4 +1,3 @@
--- A set of numbers below 64 as one number: its bits, what its operations give, and a walk over it.
+-- A set of numbers below 64 as one number: its bits and what its operations give.
 pub mod Bits
 pub mod BitLaws
-pub mod Walk

@@ -1,21 +1,19 @@
 -- A pair is carried along a buffer's bytes: at each turn it changes places with the pair that stands at the index.
-use mathlib.Core.Path.{_≡_, sym, ap, ap₂, _∙_}
-use mathlib.Core.Bool.{true}
+use mathlib.Core.Path.{_≡_, sym, ap, ap₂, subst, _∙_}
 use mathlib.Core.List.{List}
-use mathlib.Core.Option.{some}
 use Prim.Native.Nat.{ℕ, suc, _+_, _-_, _≤_, _<_}
 use native.Mathlib.Numerals.{add-one}
 use native.Mathlib.Omega.{arith}
-use lib.ListN.{length, getD, set, length-set}
+use lib.ListN.{length, getD, set, length-set, List·getD-eq-default}
 use Rattle.rules.specs.Limits.{most-pending, pairs-size}
 use Rattle.rules.specs.State.{Pending}
-use Rattle.buffer.specs.Held.{pairs, held-buffer, held-taken}
+use Rattle.buffer.specs.Held.{pairs, held-buffer, BufferOk}
 use Rattle.buffer.specs.HeldLaws.{held-number, pairs-held, holds}
 use Rattle.buffer.specs.PairLaws.{pairs-number, pairs-at, pairs-set}
-use Rattle.buffer.specs.Places.{no-pair, pair-at, set-pair, with-at, without-at, taken-at}
-use Rattle.buffer.specs.Posts.{RoomAt, StandsAt, Holds, Takes}
+use Rattle.buffer.specs.Places.{no-pair, pair-at, set-pair, first, is-to, with-at, without-at}
+use Rattle.buffer.specs.Posts.{RoomAt, Holds, Takes}
 use Rattle.buffer.specs.declared.Buf.{Buf}
-use Rattle.buffer.proofs.PlaceLaws.{carry-up, carry-down, with-at-number, without-at-number, put-in, take-out}
+use Rattle.buffer.proofs.PlaceLaws.{carry-up, carry-down, with-at-number, without-at-number, without-at-beyond, put-in, take-out, oldest-at, without-oldest-at}
 
 -- the bytes s, whose pairs would be `all` if the pair went in at index i
 pub record Carried (s : List ℕ) (variable value i : ℕ) (all : List Pending) : Type 0 where
@@ -80,24 +78,33 @@ put-in-holds b at v k h s variable value i c e =
     let done = put-in l (pairs s) at q carried (omega arith) (omega (arith, h .room .room)) (pairs-number most-pending s (c .size)) all in
     holds (record { len = b .len + 1; slots = s }) (with-at at q l) (omega arith) (omega (arith, h .room .room)) (c .size) done
 
--- where the carrying down ends, at the index, the store that stood there is what is carried
-pub take-out-takes :
-    (b : Buf) (at : ℕ) → StandsAt b at → (s : List ℕ) (variable value i : ℕ) →
-    Carried s variable value i (with-at (b .len) no-pair (pairs (b .slots))) → i ≡ at →
-    Takes (record { found = true; value = value; rest = record { len = b .len - 1; slots = s } }) (some (taken-at at (held-buffer b)))
-unfolding held-taken
-take-out-takes b at h s variable value i c e =
-    let l = held-buffer b in
-    let carried : Pending = record { variable = variable; value = value } in
-    let ok = h .ok in
-    let number = held-number b ok in
-    let all =
-    ap (λ j. with-at j carried (pairs s)) (sym e)
-    ∙ c .is
-    ∙ ap₂ (λ n r. with-at n no-pair r) (sym number) (pairs-held b ok) in
-    let within : at < length l = omega arith in
-    let few : length l ≤ most-pending = omega (arith, ok .few) in
-    let done = take-out l (pairs s) at carried within few (pairs-number most-pending s (c .size)) all in
-    let less = without-at-number l at within in
-    let rest = holds (record { len = b .len - 1; slots = s }) (without-at at l) (omega arith) (omega arith) (c .size) (done .1) in
-    record { ok = rest .ok; held = λ j. some (record { value = done .0 j .value; rest = rest .held j }) }
+module _ (b : Buf) (v : ℕ) (ok : BufferOk b) where
+  -- where no store to v is pending, nothing goes out
+  pub nothing-taken : (at : ℕ) → at ≡ first (is-to v) (held-buffer b) → b .len ≤ at → Takes (record { value = 0; rest = b }) v (held-buffer b)
+  nothing-taken at e beyond =
+      let l = held-buffer b in
+      let past : length l ≤ first (is-to v) l = omega (arith, held-number b ok) in
+      record {
+        value = sym (oldest-at v l ∙ ap (λ (p : Pending). p .value) (List·getD-eq-default l no-pair past));
+        rest = record { ok = ok; held = sym (without-oldest-at v l ∙ without-at-beyond l _ past) };
+      }
+
+  -- where the carrying down ends, at the oldest store to v, that store is what is carried
+  pub take-out-takes :
+      (at : ℕ) → at ≡ first (is-to v) (held-buffer b) → at < b .len → (s : List ℕ) (variable value : ℕ) →
+      Carried s variable value at (with-at (b .len) no-pair (pairs (b .slots))) →
+      Takes (record { value = value; rest = record { len = b .len - 1; slots = s } }) v (held-buffer b)
+  take-out-takes at e below s variable value c =
+      let l = held-buffer b in
+      let carried : Pending = record { variable = variable; value = value } in
+      let number = held-number b ok in
+      let all = c .is ∙ ap₂ (λ n r. with-at n no-pair r) (sym number) (pairs-held b ok) in
+      let within : at < length l = omega arith in
+      let few : length l ≤ most-pending = omega (arith, ok .few) in
+      let done = take-out l (pairs s) at carried within few (pairs-number most-pending s (c .size)) all in
+      let less = without-at-number l at within in
+      let rest = holds (record { len = b .len - 1; slots = s }) (without-at at l) (omega arith) (omega arith) (c .size) (done .1) in
+      record {
+        value = ap (λ (p : Pending). p .value) (done .0) ∙ ap (λ i. getD l i no-pair .value) e ∙ sym (oldest-at v l);
+        rest = subst (Holds _) (ap (λ i. without-at i l) e ∙ sym (without-oldest-at v l)) rest;
+      }

@@ -1,19 +1,16 @@
 -- The rules on a buffer are what they say by index, and carrying a pair along a list moves the place where it goes in.
 use mathlib.Core.Path.{_≡_, refl, sym, ap, ap₂, _∙_}
-use mathlib.Core.Bool.{Bool, true, false, not, cond}
+use mathlib.Core.Bool.{Bool, true, false, not, cond, _||_}
 use mathlib.Core.List.{List, [], _∷_, _++_, append-nil}
-use mathlib.Core.Option.{Option, none, some}
 use Prim.Native.Nat.{ℕ, zero, suc, _-_, _≤_, _<_}
 use native.Mathlib.Omega.{arith}
-use lib.Dec.{eqb, leb}
-use borrow.Author.Tests.{eq-eqb, ne-eqb}
+use lib.Dec.{eqb, ltb, leb, leb·suc-suc}
+use borrow.Author.Tests.{lt-ltb, eq-eqb, ne-eqb}
 use lib.ListN.{length, getD, set, replicate, length-append}
-use Rattle.reach.specs.System.{andThen}
 use Rattle.rules.specs.Limits.{most-pending}
 use Rattle.rules.specs.State.{Pending}
-use Rattle.rules.specs.Step as rules
-use Rattle.rules.specs.Step.{by-variable, take-oldest, take-oldest-to, behind, given, is-empty}
-use Rattle.buffer.specs.Places.{no-pair, padded, first, is-to, is-after, with-at, without-at, taken-at}
+use Rattle.rules.specs.Step.{by-variable, oldest-to, without-oldest-to, is-empty, is-pending-to}
+use Rattle.buffer.specs.Places.{no-pair, padded, first, is-to, is-after, with-at, without-at}
 
 module _ {A : Type 0} where
   pub first-within : (f : A → Bool) (l : List A) → first f l ≤ length l
@@ -57,6 +54,12 @@ module _ {A : Type 0} where
   without-at-number [] i h = absurd (omega arith)
   without-at-number (y ∷ l) zero h = refl
   without-at-number (y ∷ l) (suc i) h = ap suc (without-at-number l i (omega arith))
+
+  pub without-at-beyond : (l : List A) (i : ℕ) → length l ≤ i → without-at i l ≡ l
+  without-at-beyond [] zero h = refl
+  without-at-beyond [] (suc i) h = refl
+  without-at-beyond (y ∷ l) zero h = absurd (omega arith)
+  without-at-beyond (y ∷ l) (suc i) h = ap {B = List A} (λ r. y ∷ r) (without-at-beyond l i (omega arith))
 
   -- what is taken out can be put back
   pub with-without : (l : List A) (i : ℕ) (d : A) → i < length l → with-at i (getD l i d) (without-at i l) ≡ l
@@ -126,53 +129,43 @@ sorted-place q b n e = ap (λ i. with-at i q b) e ∙ sym (by-variable-at q b)
 pub last-place : (q : Pending) (b : List Pending) (n : ℕ) → length b ≡ n → with-at n q b ≡ b ++ (q ∷ [])
 last-place q b n e = ap (λ i. with-at i q b) (sym e) ∙ with-at-last b q
 
--- PSO takes the first store to v, if there is one.
-oldest-to-found :
-    (v : ℕ) (b : List Pending) → first (is-to v) b < length b → take-oldest-to v b ≡ some (taken-at (first (is-to v) b) b)
-unfolding take-oldest-to first behind
-oldest-to-found v [] h = absurd (omega arith)
-oldest-to-found v (p ∷ b) h = either (eqb (p .variable) v) (oldest-to-found v b) h
+-- A store to v is pending where a search for one ends before the last.
+pending-within : (v : ℕ) (b : List Pending) → is-pending-to v b ≡ ltb (first (is-to v) b) (length b)
+unfolding is-pending-to first
+pending-within v [] = refl
+pending-within v (p ∷ b) = either (eqb (p .variable) v) (pending-within v b)
   where
     either :
-        (t : Bool) → (first (is-to v) b < length b → take-oldest-to v b ≡ some (taken-at (first (is-to v) b) b)) →
-        cond t 0 (suc (first (is-to v) b)) < suc (length b) →
-        cond t (some (record { value = p .value; rest = b })) (andThen (take-oldest-to v b) (behind p))
-        ≡ some (taken-at (cond t 0 (suc (first (is-to v) b))) (p ∷ b))
-    either true e k = refl
-    either false e k = ap (λ o. andThen o (behind p)) (e (omega arith))
+        (t : Bool) → is-pending-to v b ≡ ltb (first (is-to v) b) (length b) →
+        (t || is-pending-to v b) ≡ ltb (cond t 0 (suc (first (is-to v) b))) (suc (length b))
+    either true e = sym (lt-ltb 0 (suc (length b)) (omega arith))
+    either false e = e ∙ sym (leb·suc-suc (suc (first (is-to v) b)) (length b))
 
-pub oldest-to-at :
-    (v : ℕ) (b : List Pending) (n : ℕ) → n ≡ first (is-to v) b → n < length b → some (taken-at n b) ≡ take-oldest-to v b
-oldest-to-at v b n e h = ap {B = Option rules.Taken} (λ i. some (taken-at i b)) e ∙ sym (oldest-to-found v b (omega arith))
+pub pending-by-index : (v : ℕ) (b : List Pending) (i n : ℕ) → i ≡ first (is-to v) b → length b ≡ n → ltb i n ≡ is-pending-to v b
+pending-by-index v b i n e number = rw (e, ← number) (sym (pending-within v b))
 
-pub oldest-to-none : (v : ℕ) (b : List Pending) → length b ≤ first (is-to v) b → take-oldest-to v b ≡ none
-unfolding take-oldest-to first behind
-oldest-to-none v [] h = refl
-oldest-to-none v (p ∷ b) h = either (eqb (p .variable) v) (oldest-to-none v b) h
+-- The oldest store to v is the first to v.
+pub oldest-at : (v : ℕ) (b : List Pending) → oldest-to v b ≡ getD b (first (is-to v) b) no-pair .value
+unfolding oldest-to first
+oldest-at v [] = refl
+oldest-at v (p ∷ b) = either (eqb (p .variable) v) (oldest-at v b)
   where
     either :
-        (t : Bool) → (length b ≤ first (is-to v) b → take-oldest-to v b ≡ none) →
-        suc (length b) ≤ cond t 0 (suc (first (is-to v) b)) →
-        cond t (some (record { value = p .value; rest = b })) (andThen (take-oldest-to v b) (behind p)) ≡ none
-    either true e k = absurd (omega arith)
-    either false e k = ap (λ o. andThen o (behind p)) (e (omega arith))
+        (t : Bool) → oldest-to v b ≡ getD b (first (is-to v) b) no-pair .value →
+        cond t (p .value) (oldest-to v b) ≡ getD (p ∷ b) (cond t 0 (suc (first (is-to v) b))) no-pair .value
+    either true e = refl
+    either false e = e
 
--- TSO takes the first store, if it is to v.
-module _ (v : ℕ) where
-  pub oldest-found : (b : List Pending) → 0 < length b → getD b 0 no-pair .variable ≡ v → take-oldest v b ≡ some (taken-at 0 b)
-  unfolding take-oldest
-  oldest-found [] h e = absurd (omega arith)
-  oldest-found (p ∷ b) h e = ap (λ t. given t (taken-at 0 (p ∷ b))) (eq-eqb (p .variable) v e)
-
-  pub oldest-other : (b : List Pending) → (getD b 0 no-pair .variable ≡ v → ⊥) → take-oldest v b ≡ none
-  unfolding take-oldest
-  oldest-other [] e = refl
-  oldest-other (p ∷ b) e = ap (λ t. given t (taken-at 0 (p ∷ b))) (ne-eqb (p .variable) v e)
-
-  pub oldest-none : (b : List Pending) → length b ≡ 0 → take-oldest v b ≡ none
-  unfolding take-oldest
-  oldest-none [] e = refl
-  oldest-none (p ∷ b) e = absurd (omega arith)
+pub without-oldest-at : (v : ℕ) (b : List Pending) → without-oldest-to v b ≡ without-at (first (is-to v) b) b
+unfolding without-oldest-to first
+without-oldest-at v [] = refl
+without-oldest-at v (p ∷ b) = either (eqb (p .variable) v) (without-oldest-at v b)
+  where
+    either :
+        (t : Bool) → without-oldest-to v b ≡ without-at (first (is-to v) b) b →
+        cond t b (p ∷ without-oldest-to v b) ≡ without-at (cond t 0 (suc (first (is-to v) b))) (p ∷ b)
+    either true e = refl
+    either false e = ap {B = List Pending} (λ r. p ∷ r) e
 
 pub empty-by-number : (b : List Pending) (n : ℕ) → length b ≡ n → eqb n 0 ≡ is-empty b
 unfolding is-empty

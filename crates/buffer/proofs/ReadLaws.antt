@@ -1,16 +1,18 @@
 -- A buffer's pending stores are read one by one, oldest first.
 use mathlib.Core.Path.{_≡_, refl, sym, ap, _∙_}
-use mathlib.Core.Bool.{Bool, true, false, cond}
-use mathlib.Core.List.{[]}
+use mathlib.Core.Bool.{Bool, true, false, not, cond, _&&_}
+use mathlib.Core.List.{List, [], _∷_}
 use Prim.Native.Nat.{ℕ, suc, _+_, _≤_, _<_}
 use native.Mathlib.Nat.{zero-add}
 use native.Mathlib.Omega.{arith}
-use lib.ListN.{drop, drop-of-length-le}
+use lib.Dec.{eqb}
+use borrow.Author.Tests.{ne-eqb}
+use lib.ListN.{length, getD, drop, drop-of-length-le}
 use Rattle.rules.specs.State.{Pending}
-use Rattle.rules.specs.Step.{newest}
+use Rattle.rules.specs.Step.{newest, is-oldest-to}
 use Rattle.buffer.specs.Held.{held-buffer, BufferOk}
-use Rattle.buffer.specs.HeldLaws.{held-number, held-from}
-use Rattle.buffer.specs.Places.{pair-at, first, is-to}
+use Rattle.buffer.specs.HeldLaws.{held-number, held-at, held-from}
+use Rattle.buffer.specs.Places.{no-pair, pair-at, first, is-to}
 use Rattle.buffer.specs.declared.Buf.{Buf}
 
 -- a search that has come to index i: what is left decides
@@ -26,6 +28,19 @@ pub record Seen (v memory : ℕ) (b : Buf) (seen i : ℕ) : Type 0 where
 module _ (b : Buf) (ok : BufferOk b) where
   none-left : (i : ℕ) → b .len ≤ i → drop i (held-buffer b) ≡ []
   none-left i h = drop-of-length-le (held-buffer b) {i = i} (omega (arith, held-number b ok))
+
+  -- the oldest store is the pair at index 0, if there is one
+  pub oldest-first : (v : ℕ) → (not (eqb (b .len) 0) && eqb (pair-at (b .slots) 0 .variable) v) ≡ is-oldest-to v (held-buffer b)
+  unfolding is-oldest-to
+  oldest-first v = which (held-buffer b) (held-number b ok) (held-at b ok 0)
+    where
+      which :
+          (l : List Pending) → length l ≡ b .len → (0 < b .len → getD l 0 no-pair ≡ pair-at (b .slots) 0) →
+          (not (eqb (b .len) 0) && eqb (pair-at (b .slots) 0 .variable) v) ≡ is-oldest-to v l
+      which [] number oldest = rw (← number)
+      which (p ∷ l) number oldest =
+          let same = ap (λ (p : Pending). p .variable) (oldest (omega arith)) in
+          rw (ne-eqb (b .len) 0 (λ e. omega arith), ← same)
 
   module _ (f : Pending → Bool) where
     pub search-starts : Searched f b 0

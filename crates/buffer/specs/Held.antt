@@ -1,15 +1,12 @@
 -- The pending stores that a buffer's value holds, and the value that pending stores are written as.
 use mathlib.Core.Path.{_≡_}
 use mathlib.Core.List.{List, [], _∷_, _++_}
-use mathlib.Core.Option.{Option}
 use Prim.Native.Nat.{ℕ, _*_, _-_, _≤_}
 use lib.ListN.{length, getD, take, replicate}
 use Rattle.rules.specs.Limits.{most-pending, pairs-size}
 use Rattle.rules.specs.State.{Pending}
-use Rattle.rules.specs.Step as rules
 use Rattle.rules.specs.Slot.{pair-bytes}
 use Rattle.buffer.specs.declared.Buf.{Buf}
-use Rattle.buffer.specs.declared.Taken.{Taken}
 
 -- pairs of bytes, variable and value
 unfoldable pub pairs : List ℕ → List Pending
@@ -28,7 +25,3 @@ pub record BufferOk (b : Buf) : Type 0 where
   pub few : b .len ≤ most-pending
   pub size : length (b .slots) ≡ pairs-size
   pub unused : (i : ℕ) → 2 * b .len ≤ i → getD (b .slots) i 0 ≡ 0
-
--- what a flush takes, as the definitions have it
-unfoldable pub held-taken : Taken → Option rules.Taken
-held-taken t = rules.given (t .found) (record { value = t .value; rest = held-buffer (t .rest) })

@@ -99,11 +99,6 @@ module _ (b : Buf) (ok : BufferOk b) where
       let slots = written-slots (held-buffer b) held-few ∙ bytes in
       λ i. record { len = held-number i; slots = slots i }
 
-  pub slots-held :
-      b .slots ≡ pair-bytes (held-buffer b) ++ replicate (pairs-size - length (pair-bytes (held-buffer b))) 0
-  unfolding written-buffer
-  slots-held = ap (λ (x : Buf). x .slots) (sym written-held)
-
 -- a buffer whose pairs are some stores and else unused holds those stores
 pub holds :
     (b : Buf) (l : List Pending) → b .len ≡ length l → length l ≤ most-pending → length (b .slots) ≡ pairs-size →

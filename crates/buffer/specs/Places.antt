@@ -6,7 +6,6 @@ use lib.Dec.{eqb, leb}
 use lib.ListN.{length, getD, set, take, drop, replicate}
 use Rattle.rules.specs.Limits.{most-pending}
 use Rattle.rules.specs.State.{Pending}
-use Rattle.rules.specs.Step as rules
 
 -- an unused pair
 abbrev pub no-pair : Pending
@@ -41,7 +40,3 @@ with-at i x l = take i l ++ x ∷ drop i l
 
 abbrev pub without-at : {A : Type 0} → ℕ → List A → List A
 without-at i l = take i l ++ drop (suc i) l
-
--- what a flush takes at an index
-abbrev pub taken-at : ℕ → List Pending → rules.Taken
-taken-at i b = record { value = getD b i no-pair .value; rest = without-at i b }

@@ -1,6 +1,5 @@
 // A store joins a buffer.
 use crate::Buf;
-use rules::Model;
 ghost use mathlib.Core.Path.{_≡_};
 ghost use mathlib.Core.List.{[], _∷_, _++_};
 ghost use Rattle.rules.specs.Step as rules;
@@ -65,16 +64,4 @@ pub fn with_sorted(b: Buf, v: u8, k: u8) -> Buf
 {
     let at = first_after(b, v);
     put_in(b, at, v, k)
-}
-
-// A store joins the buffer, by the model: under TSO at the end, under PSO by its variable; SC has no pending store.
-pub fn joined(m: Model, b: Buf, v: u8, k: u8) -> Buf
-    requires { ⌜ HasRoom b ⌝ }
-    ensures { λ r. ⌜ Holds r (rules.joined m (record { variable = v; value = k }) (held-buffer b)) ⌝ }
-{
-    match m {
-        Model::Sc => b,
-        Model::Tso => with_last(b, v, k),
-        Model::Pso => with_sorted(b, v, k),
-    }
 }

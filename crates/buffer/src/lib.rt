@@ -1,22 +1,22 @@
 // A thread's store buffer: pending stores that go in by value and come back.
+use rules::PAIRS_SIZE;
 ghost use mathlib.Core.Path.{_≡_};
 ghost use mathlib.Core.List.{[]};
 ghost use Rattle.rules.specs.Step as rules;
 ghost use Rattle.buffer.specs.Held.{held-buffer, BufferOk};
 ghost use Rattle.buffer.specs.Posts.{Holds};
 
-pub mod flush; // a store leaves
+pub mod flush; // a store leaves, if it may
 pub mod join; // a store joins
 
 // How many stores are pending, and their pairs of variable and value; unused pairs are 0.
 pub struct Buf {
     pub len: u8,
-    pub slots: [u8; 16],
+    pub slots: [u8; PAIRS_SIZE],
 }
 
-// What a flush takes: whether there is such a store, its value, and the buffer without it.
+// What a flush takes: the value of a store, and the buffer without it.
 pub struct Taken {
-    pub found: bool,
     pub value: u8,
     pub rest: Buf,
 }
@@ -26,7 +26,7 @@ pub fn empty() -> Buf
 {
     Buf {
         len: 0,
-        slots: [0; 16],
+        slots: [0; PAIRS_SIZE],
     }
 }
 

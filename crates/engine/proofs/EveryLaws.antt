@@ -1,12 +1,11 @@
 -- A test of every element, made from the front on: what is left to test decides while all before it passed.
-use mathlib.Core.Path.{_≡_, refl}
+use mathlib.Core.Path.{_≡_}
 use mathlib.Core.Bool.{Bool, true, _&&_}
-use mathlib.Core.List.{List, [], _∷_}
+use mathlib.Core.List.{List, _∷_}
 use mathlib.Core.Option.{some}
-use Prim.Native.Nat.{ℕ, zero, suc, _+_, _≤_, _<_}
+use Prim.Native.Nat.{ℕ, _+_, _≤_, _<_}
 use native.Mathlib.Numerals.{add-one}
-use native.Mathlib.Omega.{arith}
-use lib.ListN.{length, getD, drop, getElem?, drop-of-length-le}
+use lib.ListN.{length, drop, getElem?, drop-of-length-le}
 use lib.Seq.{drop-cons}
 use Rattle.reach.specs.ListLaws.{at-below, at-getD}
 use Rattle.rules.specs.Goal.{every}
@@ -25,8 +24,3 @@ module _ {A : Type 0} (f : A → Bool) (l : List A) (i : ℕ) where
   pub tests-end : length l ≤ i → every f (drop i l) ≡ true
   unfolding every
   tests-end h = rw (drop-of-length-le l h)
-
-pub element-at : {A : Type 0} (l : List A) (i : ℕ) (d : A) → i < length l → getElem? l i ≡ some (getD l i d)
-element-at [] i d h = absurd (omega arith)
-element-at (x ∷ l) zero d h = refl
-element-at (x ∷ l) (suc i) d h = element-at l i d (omega arith)

@@ -2,30 +2,30 @@
 use mathlib.Core.Path.{_≡_, sym, ap, ap₂, _∙_}
 use mathlib.Core.Bool.{Bool, true, false, not, _&&_, _||_}
 use mathlib.Core.List.{List, []}
-use mathlib.Core.Option.{none, some, Option·none-ne-some}
+use mathlib.Core.Option.{some, Option·none-ne-some}
 use Prim.Native.Nat.{ℕ, _≤_, _<_}
 use native.Mathlib.Omega.{arith}
 use lib.ListN.{length, getElem?, length-map}
-use Rattle.reach.specs.ListLaws.{all-at, at-in, below-at}
+use Rattle.reach.specs.ListLaws.{all-at, at-in, below-at, at-default}
 use Rattle.rules.specs.Limits.{most-threads, most-variables}
 use Rattle.rules.specs.State as states
+use Rattle.rules.specs.State.{Pending}
 use Rattle.rules.specs.Job.{Job}
 use Rattle.rules.specs.Step.{is-empty}
 use Rattle.rules.specs.Goal.{every, clause-holds, goal}
-use Rattle.rules.specs.Sound.{ClauseIn}
+use Rattle.rules.specs.Sound.{ClauseIn, JobIn}
 use Rattle.rules.specs.declared.Clause.{Clause}
-use Rattle.rules.specs.declared.Clause.the-variants.{Place, Register, Memory}
+use Rattle.rules.specs.declared.Clause.the-variants.{PlaceIs, RegisterIs, MemoryIs}
 use Rattle.rules.specs.declared.Instr.{Instr}
 use Rattle.buffer.specs.Held.{held-buffer}
-use Rattle.job.specs.Laid.{Laid, IsAccepted}
+use Rattle.buffer.specs.Posts.{Holds as HoldsStores}
+use Rattle.buffer.specs.declared.Buf.{Buf}
 use Rattle.tables.specs.Told.{goal-clause-of}
 use Rattle.tables.specs.declared.ClauseRead.{ClauseRead}
 use Rattle.tables.specs.declared.ClauseRead.the-variants.{Good, Bad}
-use Rattle.job.specs.declared.Layout.{Layout}
-use Rattle.machine.specs.Held.{held, StateOk}
-use Rattle.machine.specs.declared.State.{State}
+use Rattle.state.specs.Held.{held, StateOk}
+use Rattle.state.specs.declared.State.{State}
 use Rattle.engine.specs.At.{ClauseOk}
-use Rattle.engine.proofs.EveryLaws.{element-at}
 
 module _ (s : State) (ok : StateOk s) where
   pub buffers-held : length (held s .buffers) ≡ most-threads
@@ -34,34 +34,35 @@ module _ (s : State) (ok : StateOk s) where
 
   pub buffer-at : (t : ℕ) → t < most-threads → getElem? (held s .buffers) t ≡ some (states.buffer t (held s))
   unfolding states.buffer
-  buffer-at t h = element-at (held s .buffers) t [] (omega (arith, buffers-held))
+  buffer-at t h = at-default (held s .buffers) t [] (omega (arith, buffers-held))
+
+-- a buffer's value is empty where its pending stores are none
+pub empty-as : {l : List Pending} {b : Buf} {e f : Bool} → HoldsStores b l → e ≡ is-empty (held-buffer b) → e ≡ f → is-empty l ≡ f
+empty-as p h k = ap is-empty (sym (p .held)) ∙ sym h ∙ k
 
 -- a clause of a job in range speaks of parts that a state has
 clause-parts :
     (vars : ℕ) (threads : List (List Instr)) → vars ≤ most-variables → length threads ≤ most-threads →
     (c : Clause) → ClauseIn vars threads c → ClauseOk c
-clause-parts vars threads few small (Place t p) h = omega (arith, h .0)
-clause-parts vars threads few small (Register t r k) h = (omega (arith, h .0), h .1)
-clause-parts vars threads few small (Memory v k) h = omega (arith, h .0)
+clause-parts vars threads few small (PlaceIs t p) h = omega (arith, h .0)
+clause-parts vars threads few small (RegisterIs t r k) h = (omega (arith, h .0), h .1)
+clause-parts vars threads few small (MemoryIs v k) h = omega (arith, h .0)
 
--- An accepted job, whose clause at place i was read.
-module _ {bytes : List ℕ} {l : Layout} (a : IsAccepted bytes l) (i : ℕ) (r : ClauseRead)
-    (read : (j : Job) → Laid bytes l j → goal-clause-of r ≡ getElem? (j .clauses) i) where
-  pub clause-read : (c : Clause) → r ≡ Good c → getElem? (a .job .clauses) i ≡ some c
-  clause-read c e = sym (read (a .job) (a .laid)) ∙ ap goal-clause-of e
+-- The clause at place i was read.
+module _ (j : Job) (i : ℕ) (r : ClauseRead) (read : goal-clause-of r ≡ getElem? (j .clauses) i) where
+  pub clause-read : (c : Clause) → r ≡ Good c → getElem? (j .clauses) i ≡ some c
+  clause-read c e = sym read ∙ ap goal-clause-of e
 
-  pub clause-ok : (c : Clause) → r ≡ Good c → ClauseOk c
-  clause-ok c e =
-      let j = a .job in
-      let range = a .in-range in
+  pub clause-ok : JobIn j → (c : Clause) → r ≡ Good c → ClauseOk c
+  clause-ok range c e =
       clause-parts (length (j .initial)) (j .threads) (range .variables-most) (range .threads-most) c
       (all-at (ClauseIn (length (j .initial)) (j .threads)) (j .clauses) (range .clauses) c (at-in (j .clauses) i c (clause-read c e)))
 
   -- none is bad below the number of the clauses
-  pub clause-there : r ≡ Bad → i < length (a .job .clauses) → ⊥
+  pub clause-there : r ≡ Bad → i < length (j .clauses) → ⊥
   clause-there e h =
-      let c = below-at (a .job .clauses) i h in
-      Option·none-ne-some (c .0) (ap goal-clause-of (sym e) ∙ read (a .job) (a .laid) ∙ c .1)
+      let c = below-at (j .clauses) i h in
+      Option·none-ne-some (c .0) (ap goal-clause-of (sym e) ∙ read ∙ c .1)
 
 module _ (j : Job) (x : states.State) where
   -- the flag asks for empty buffers

@@ -1,5 +1,5 @@
-pub mod InstructionLaws
-pub mod NextLaws
+pub mod StepLaws
+pub mod MaskLaws
 pub mod EveryLaws
 pub mod GoalLaws
 pub mod StartLaws

@@ -12,8 +12,8 @@ use Rattle.rules.specs.Limits.{most-threads, most-variables, all-registers}
 use Rattle.rules.specs.Job.{Job, start}
 use Rattle.buffer.specs.Posts.{Holds as HoldsStores}
 use Rattle.buffer.specs.declared.Buf.{Buf}
-use Rattle.machine.specs.Held.{held}
-use Rattle.machine.specs.Parts.{Holds}
+use Rattle.state.specs.Held.{held}
+use Rattle.state.specs.Parts.{Holds}
 use Rattle.engine.specs.At.{Memory}
 
 -- one more cell takes its value

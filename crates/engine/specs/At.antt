@@ -1,22 +1,30 @@
 -- What the machine of a job asks: the job was accepted, and the state is one of its machine's.
 use mathlib.Core.Path.{_≡_}
+use mathlib.Core.Bool.{Bool}
 use mathlib.Core.List.{List}
 use Prim.Native.Nat.{ℕ, _<_}
 use lib.ListN.{length, getD}
 use Rattle.rules.specs.Limits.{most-threads, most-variables, registers-each}
+use Rattle.rules.specs.State.{Pending}
 use Rattle.rules.specs.Job.{Job}
+use Rattle.rules.specs.Step.{may-execute, instruction-at}
+use Rattle.rules.specs.File.{job-of}
 use Rattle.rules.specs.Sound.{WellFormed}
 use Rattle.rules.specs.declared.Clause.{Clause}
-use Rattle.rules.specs.declared.Clause.the-variants.{Place, Register, Memory as MemoryHolds}
+use Rattle.rules.specs.declared.Clause.the-variants.{PlaceIs, RegisterIs, MemoryIs}
 use Rattle.job.specs.Laid.{IsAccepted}
 use Rattle.job.specs.declared.Layout.{Layout}
-use Rattle.machine.specs.Held.{held, StateOk}
-use Rattle.machine.specs.declared.State.{State}
+use Rattle.state.specs.Held.{held, StateOk}
+use Rattle.state.specs.declared.State.{State}
 
 pub record At (bytes : List ℕ) (l : Layout) (s : State) : Type 0 where
   pub accepted : IsAccepted bytes l
   pub ok : StateOk s
-  pub well : WellFormed (accepted .job) (held s)
+  pub well : WellFormed (job-of bytes) (held s)
+
+-- may thread t execute at place p, with these stores pending?
+abbrev pub may-execute-at : Job → (t p : ℕ) → List Pending → Bool
+may-execute-at j t p b = may-execute (j .model) (j .capacity) (instruction-at j t p) b
 
 -- the memory with which a job starts
 pub record Memory (j : Job) (mem : List ℕ) : Type 0 where
@@ -25,6 +33,6 @@ pub record Memory (j : Job) (mem : List ℕ) : Type 0 where
 
 -- a clause speaks of parts that a state has
 abbrev pub ClauseOk : Clause → Type 0
-ClauseOk (Place t p) = t < most-threads
-ClauseOk (Register t r k) = (t < most-threads) × (r < registers-each)
-ClauseOk (MemoryHolds v k) = v < most-variables
+ClauseOk (PlaceIs t p) = t < most-threads
+ClauseOk (RegisterIs t r k) = (t < most-threads) × (r < registers-each)
+ClauseOk (MemoryIs v k) = v < most-variables

@@ -1,40 +1,40 @@
-// The machine of a job: its start, the steps that may be taken, one step, and its goal.
+// The machine of a job: its start, the steps that may be taken, what a step does, and its goal.
 use buffer::Buf;
 use job::Layout;
 use job::PlaceRead;
-use machine::Moved;
-use machine::State;
+use rules::ALL_REGISTERS;
 use rules::Clause;
+use rules::MOST_THREADS;
+use rules::MOST_VARIABLES;
 use rules::Model;
+use rules::STEP_BOUND;
+use rules::THREADS;
+use rules::VARIABLES;
+use state::State;
 use tables::ClauseRead;
 ghost use mathlib.Core.Path.{_≡_};
-ghost use Prim.Native.Nat.{ℕ, _+_, _*_, _^_, _<_};
+ghost use mathlib.Core.Bool.{true};
+ghost use Prim.Native.Nat.{_+_, _*_, _^_, _<_};
 ghost use Rattle.rules.specs.Limits.{most-threads, most-variables};
 ghost use Rattle.rules.specs.State as states;
 ghost use Rattle.rules.specs.Job as jobs;
 ghost use Rattle.rules.specs.Step as steps;
 ghost use Rattle.rules.specs.Goal as goals;
+ghost use Rattle.rules.specs.File.{job-of};
 ghost use Rattle.job.specs.Laid.{IsAccepted};
 ghost use Rattle.buffer.specs.Held.{BufferOk, held-buffer};
-ghost use Rattle.machine.specs.Held.{StateOk, held};
-ghost use Rattle.machine.specs.Parts.{Holds};
-ghost use Rattle.machine.specs.Moves.{Gives, is-some};
-ghost use Rattle.engine.specs.At.{At, ClauseOk, Memory};
-
-pub const THREADS: u8 = 4;
-
-pub const VARIABLES: u8 = 8;
-
-pub const STEPS: u8 = 36;
+ghost use Rattle.state.specs.Held.{StateOk, held};
+ghost use Rattle.state.specs.Parts.{Holds};
+ghost use Rattle.engine.specs.At.{At, ClauseOk, Memory, may-execute-at};
 
 // The job's initial values, and 0 for the variables that it doesn't have.
-fn memory(job: &[u8], l: Layout) -> [u8; 8]
+fn memory(job: &[u8], l: Layout) -> [u8; VARIABLES]
     requires { ⌜ IsAccepted (now job) l ⌝ }
-    ensures { λ r. ⌜ ((a : IsAccepted (now (job .entry)) l) → Memory (a .job) r) ⌝ }
+    ensures { λ r. ⌜ Memory (job-of (now (job .entry))) r ⌝ }
 {
-    let mut mem = [0u8; 8];
+    let mut mem = [0u8; VARIABLES];
     let mut cell: u8 = 0;
-    while cell < VARIABLES {
+    while cell < MOST_VARIABLES {
         mem[cell as usize] = job::parts::initial(job, l, cell);
         cell += 1;
     }
@@ -44,133 +44,144 @@ fn memory(job: &[u8], l: Layout) -> [u8; 8]
 // The state in which the job starts.
 pub fn start(job: &[u8], l: Layout) -> State
     requires { ⌜ IsAccepted (now job) l ⌝ }
-    ensures { λ r. ⌜ ((a : IsAccepted (now (job .entry)) l) → Holds r (jobs.start (a .job))) ⌝ }
+    ensures { λ r. ⌜ Holds r (jobs.start (job-of (now (job .entry)))) ⌝ }
 {
     let mem = memory(job, l);
     let none = buffer::empty();
     State {
-        places: [0; 4],
-        regs: [0; 16],
+        places: [0; THREADS],
+        regs: [0; ALL_REGISTERS],
         mem,
         bufs: [none, none, none, none],
     }
 }
 
-// One instruction of thread t; a thread that has ended has no step.
-fn execute(job: &[u8], l: Layout, s: State, t: u8) -> Moved
-    requires { ⌜ At (now job) l s ⌝ }
-    requires { ⌜ t < most-threads ⌝ }
-    ensures { λ r. ⌜ ((a : At (now (job .entry)) l s) → Gives s r (steps.execute (a .accepted .job) t (held s))) ⌝ }
+// Whether a thread t that is at this place, with these stores pending, may execute: one that has ended may not.
+fn may_execute(job: &[u8], l: Layout, t: u8, place: u8, own: Buf) -> bool
+    requires { ⌜ IsAccepted (now job) l ⌝ }
+    requires { ⌜ BufferOk own ⌝ }
+    ensures { λ r. ⌜ r ≡ may-execute-at (job-of (now (job .entry))) t place (held-buffer own) ⌝ }
 {
-    let place = machine::parts::place(s, t);
     let read = job::parts::instruction_at(job, l, t, place);
     let model = l.model;
     let capacity = l.capacity;
-    match read {
-        PlaceRead::Holds(i) => machine::execute(i, model, capacity, s, t),
-        PlaceRead::Ended => Moved {
-            moved: false,
-            state: s,
-        },
-    }
-}
-
-// One step, by its number; any number from 36 up is no step.
-pub fn step(job: &[u8], l: Layout, s: State, k: u8) -> Moved
-    requires { ⌜ At (now job) l s ⌝ }
-    ensures { λ r. ⌜ ((a : At (now (job .entry)) l s) → Gives s r (steps.next (a .accepted .job) k (held s))) ⌝ }
-{
-    if k < THREADS {
-        return execute(job, l, s, k);
-    }
-    if k < STEPS {
-        let flushes = k - THREADS;
-        let model = l.model;
-        return machine::flush(model, s, flushes / VARIABLES, flushes % VARIABLES);
-    }
-    Moved {
-        moved: false,
-        state: s,
-    }
-}
-
-// Whether thread t has an execute step.
-fn may_execute(job: &[u8], l: Layout, s: State, t: u8) -> bool
-    requires { ⌜ At (now job) l s ⌝ }
-    requires { ⌜ t < most-threads ⌝ }
-    ensures { λ r. ⌜ ((a : At (now (job .entry)) l s) → r ≡ is-some (steps.execute (a .accepted .job) t (held s))) ⌝ }
-{
-    let at = machine::parts::place(s, t);
-    let read = job::parts::instruction_at(job, l, t, at);
-    let model = l.model;
-    let capacity = l.capacity;
-    let own = machine::parts::buffer(s, t);
     match read {
         PlaceRead::Holds(i) => machine::may_execute(i, model, capacity, own),
         PlaceRead::Ended => false,
     }
 }
 
+// Whether step k may be taken; no number from 36 up is a step.
+pub fn may(job: &[u8], l: Layout, x: State, s: u8) -> bool
+    requires { ⌜ At (now job) l x ⌝ }
+    ensures { λ r. ⌜ r ≡ steps.may (job-of (now (job .entry))) s (held x) ⌝ }
+{
+    if s < MOST_THREADS {
+        return may_execute(job, l, s, state::place(x, s), state::buffer(x, s));
+    }
+    if s < STEP_BOUND {
+        let flush = s - MOST_THREADS;
+        let model = l.model;
+        let pending = state::buffer(x, flush / MOST_VARIABLES);
+        return buffer::flush::may_flush(model, pending, flush % MOST_VARIABLES);
+    }
+    false
+}
+
+// One instruction of thread t, which may execute.
+fn execute(job: &[u8], l: Layout, x: State, t: u8) -> State
+    requires { ⌜ At (now job) l x ⌝ }
+    requires { ⌜ t < most-threads ⌝ }
+    requires { ⌜ steps.may (job-of (now job)) t (held x) ≡ true ⌝ }
+    ensures { λ r. ⌜ Holds r (steps.after (job-of (now (job .entry))) t (held x)) ⌝ }
+{
+    let at = state::place(x, t);
+    let read = job::parts::instruction_at(job, l, t, at);
+    let model = l.model;
+    match read {
+        PlaceRead::Holds(i) => machine::execute(i, model, x, t),
+        PlaceRead::Ended => x,
+    }
+}
+
+// The state after step k, which may be taken.
+pub fn take(job: &[u8], l: Layout, x: State, s: u8) -> State
+    requires { ⌜ At (now job) l x ⌝ }
+    requires { ⌜ steps.may (job-of (now job)) s (held x) ≡ true ⌝ }
+    ensures { λ r. ⌜ Holds r (steps.after (job-of (now (job .entry))) s (held x)) ⌝ }
+{
+    if s < MOST_THREADS {
+        return execute(job, l, x, s);
+    }
+    let flush = s - MOST_THREADS;
+    machine::flush(x, flush / MOST_VARIABLES, flush % MOST_VARIABLES)
+}
+
 // The execute steps that may be taken: bits 0 to 3.
-fn executes(job: &[u8], l: Layout, s: State) -> u64
-    requires { ⌜ At (now job) l s ⌝ }
-    ensures { λ r. ⌜ ((a : At (now (job .entry)) l s) → r ≡ steps.enabled-below (a .accepted .job) (held s) most-threads) ⌝ }
+fn executes(job: &[u8], l: Layout, x: State) -> u64
+    requires { ⌜ At (now job) l x ⌝ }
+    ensures { λ r. ⌜ r ≡ steps.enabled-below (job-of (now (job .entry))) (held x) most-threads ⌝ }
 {
     let mut mask: u64 = 0;
     let mut t: u8 = 0;
-    while t < THREADS {
-        let on = may_execute(job, l, s, t);
+    while t < MOST_THREADS {
+        let place = x.places[t as usize];
+        let own = x.bufs[t as usize];
+        let on = may_execute(job, l, t, place, own);
         mask = bits::with_bit(mask, t, on);
         t += 1;
     }
     mask
 }
 
-// The flush steps of thread t that may be taken, behind the bits of the steps before them.
-fn flushes(model: Model, b: Buf, t: u8, before: u64) -> u64
-    requires { ⌜ BufferOk b ⌝ }
+// The flush steps of a thread t with these stores pending, behind the bits of the steps before them.
+fn flushes(model: Model, pending: Buf, t: u8, before: u64) -> u64
+    requires { ⌜ BufferOk pending ⌝ }
     requires { ⌜ t < most-threads ⌝ }
     requires { ⌜ before < 2 ^ (most-threads + most-variables * t) ⌝ }
     ensures { λ r. ⌜
-        ((j : jobs.Job) (x : states.State) → j .model ≡ model → states.buffer t x ≡ held-buffer b →
+        ((j : jobs.Job) (x : states.State) → model ≡ j .model → held-buffer pending ≡ states.buffer t x →
         before ≡ steps.enabled-below j x (most-threads + most-variables * t) → r ≡ steps.enabled-below j x (most-threads + most-variables * (t + 1)))
         ⌝ }
 {
+    if buffer::is_empty(pending) {
+        return before;
+    }
     let mut mask = before;
     let mut v: u8 = 0;
-    while v < VARIABLES {
-        let on = machine::may_flush(model, b, v);
-        mask = bits::with_bit(mask, THREADS + VARIABLES * t + v, on);
+    while v < MOST_VARIABLES {
+        let on = buffer::flush::may_flush(model, pending, v);
+        mask = bits::with_bit(mask, MOST_THREADS + MOST_VARIABLES * t + v, on);
         v += 1;
     }
     mask
 }
 
 // The steps that may be taken, as one number: bit k is set exactly when step k may be taken.
-pub fn enabled(job: &[u8], l: Layout, s: State) -> u64
-    requires { ⌜ At (now job) l s ⌝ }
-    ensures { λ r. ⌜ ((a : At (now (job .entry)) l s) → r ≡ steps.enabled (a .accepted .job) (held s)) ⌝ }
+pub fn enabled(job: &[u8], l: Layout, x: State) -> u64
+    requires { ⌜ At (now job) l x ⌝ }
+    ensures { λ r. ⌜ r ≡ steps.enabled (job-of (now (job .entry))) (held x) ⌝ }
 {
     let model = l.model;
-    let mut mask = executes(job, l, s);
+    let mut mask = executes(job, l, x);
     let mut t: u8 = 0;
-    while t < THREADS {
-        let b = machine::parts::buffer(s, t);
-        mask = flushes(model, b, t, mask);
+    while t < MOST_THREADS {
+        let pending = x.bufs[t as usize];
+        mask = flushes(model, pending, t, mask);
         t += 1;
     }
     mask
 }
 
 // Whether no store is pending.
-fn all_empty(s: State) -> bool
-    requires { ⌜ StateOk s ⌝ }
-    ensures { λ r. ⌜ r ≡ goals.every steps.is-empty (held s .buffers) ⌝ }
+fn all_empty(x: State) -> bool
+    requires { ⌜ StateOk x ⌝ }
+    ensures { λ r. ⌜ r ≡ goals.every steps.is-empty (held x .buffers) ⌝ }
 {
     let mut t: u8 = 0;
-    while t < THREADS {
-        let pending = machine::parts::buffer(s, t);
-        if !buffer::is_empty(pending) {
+    while t < MOST_THREADS {
+        let stores = x.bufs[t as usize];
+        if !buffer::is_empty(stores) {
             return false;
         }
         t += 1;
@@ -178,29 +189,29 @@ fn all_empty(s: State) -> bool
     true
 }
 
-fn clause_holds(s: State, c: Clause) -> bool
-    requires { ⌜ StateOk s ⌝ }
+fn clause_holds(x: State, c: Clause) -> bool
+    requires { ⌜ StateOk x ⌝ }
     requires { ⌜ ClauseOk c ⌝ }
-    ensures { λ r. ⌜ r ≡ goals.clause-holds (held s) c ⌝ }
+    ensures { λ r. ⌜ r ≡ goals.clause-holds (held x) c ⌝ }
 {
     match c {
-        Clause::Place(t, p) => machine::parts::place(s, t) == p,
-        Clause::Register(t, r, k) => machine::parts::register(s, t, r) == k,
-        Clause::Memory(v, k) => machine::parts::variable(s, v) == k,
+        Clause::PlaceIs(t, p) => state::place(x, t) == p,
+        Clause::RegisterIs(t, r, k) => state::register(x, t, r) == k,
+        Clause::MemoryIs(v, k) => state::variable(x, v) == k,
     }
 }
 
 // Whether all clauses of the goal hold.
-fn clauses_hold(job: &[u8], l: Layout, s: State) -> bool
-    requires { ⌜ At (now job) l s ⌝ }
-    ensures { λ r. ⌜ ((a : At (now (job .entry)) l s) → r ≡ goals.every (goals.clause-holds (held s)) (a .accepted .job .clauses)) ⌝ }
+fn clauses_hold(job: &[u8], l: Layout, x: State) -> bool
+    requires { ⌜ At (now job) l x ⌝ }
+    ensures { λ r. ⌜ r ≡ goals.every (goals.clause-holds (held x)) (job-of (now (job .entry)) .clauses) ⌝ }
 {
     let count = job::parts::clause_count(job, l);
     let mut i: u8 = 0;
     while i < count {
         match job::parts::clause_at(job, l, i) {
             ClauseRead::Good(c) => {
-                if !clause_holds(s, c) {
+                if !clause_holds(x, c) {
                     return false;
                 }
             }
@@ -215,14 +226,14 @@ fn clauses_hold(job: &[u8], l: Layout, s: State) -> bool
 }
 
 // Whether the state is a goal: the flag and all clauses hold.
-pub fn goal(job: &[u8], l: Layout, s: State) -> bool
-    requires { ⌜ At (now job) l s ⌝ }
-    ensures { λ r. ⌜ ((a : At (now (job .entry)) l s) → r ≡ goals.goal (a .accepted .job) (held s)) ⌝ }
+pub fn goal(job: &[u8], l: Layout, x: State) -> bool
+    requires { ⌜ At (now job) l x ⌝ }
+    ensures { λ r. ⌜ r ≡ goals.goal (job-of (now (job .entry))) (held x) ⌝ }
 {
     if job::parts::flag(job, l) {
-        if !all_empty(s) {
+        if !all_empty(x) {
             return false;
         }
     }
-    clauses_hold(job, l, s)
+    clauses_hold(job, l, x)
 }

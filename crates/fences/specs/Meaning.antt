@@ -3,18 +3,17 @@ use mathlib.Core.Path.{_≡_, refl, sym, _∙_, ap, subst}
 use mathlib.Core.List.{List, [], _∷_}
 use Prim.Native.Nat.{ℕ}
 use lib.ListN.{getD}
+use Rattle.reach.specs.Words.{refusal-words}
 use Rattle.rules.specs.Job.{Job}
 use Rattle.rules.specs.File.{Decoded, accepted, refused, decode}
 use Rattle.rules.specs.Fences as rules
 use Rattle.rules.specs.FenceCheck.{one-fence-answer}
+use Rattle.rules.specs.declared.Instr.{Instr}
 use Rattle.fences.specs.declared.Answer.{Answer}
 use Rattle.fences.specs.declared.Answer.the-variants.{Refused, Fenced, Open}
 
 -- each case of the answer with its number and values
-abbrev pub refusal-words : (number offset : ℕ) → List ℕ
-refusal-words number offset = 0 ∷ number ∷ offset ∷ 0 ∷ []
-
-abbrev pub checked-words : rules.Fenced → List ℕ
+abbrev pub checked-words : rules.Checked → List ℕ
 checked-words rules.fenced = 1 ∷ 0 ∷ 0 ∷ 0 ∷ []
 checked-words (rules.open-at t s l) = 2 ∷ t ∷ s ∷ l ∷ []
 
@@ -23,35 +22,35 @@ words (Refused number offset) = refusal-words number offset
 words Fenced = checked-words rules.fenced
 words (Open t s l) = checked-words (rules.open-at t s l)
 
--- "The answer is FENCED, or OPEN with the least (thread, store, load)."
-pub record MeansFor (j : Job) (ws : List ℕ) : Type 0 where
-  pub checked : rules.Fenced
-  pub means : rules.FenceMeans j checked
+-- "The answer is FENCED, or OPEN with the least (thread, store, load)." It is of the threads alone.
+pub record FenceFor (threads : List (List Instr)) (ws : List ℕ) : Type 0 where
+  pub checked : rules.Checked
+  pub means : rules.ChecksTo threads checked
   pub answer : ws ≡ checked-words checked
 
 -- "Replay and fence check refuse by 1 to 6."
-abbrev pub MeansOf : Decoded → List ℕ → Type 0
-MeansOf (accepted j) ws = MeansFor j ws
-MeansOf (refused number offset) ws = ws ≡ refusal-words number offset
+abbrev pub FenceOf : Decoded → List ℕ → Type 0
+FenceOf (accepted j) ws = FenceFor (j .threads) ws
+FenceOf (refused number offset) ws = ws ≡ refusal-words number offset
 
 -- the whole promise: job, answer
-abbrev pub FencesMean : List ℕ → List ℕ → Type 0
-FencesMean bytes ws = MeansOf (decode bytes) ws
+abbrev pub FencePromise : List ℕ → List ℕ → Type 0
+FencePromise bytes ws = FenceOf (decode bytes) ws
 
 -- any two answers that the promise allows are equal
-pub fences-once : (bytes ws vs : List ℕ) → FencesMean bytes ws → FencesMean bytes vs → ws ≡ vs
+pub fences-once : (bytes ws vs : List ℕ) → FencePromise bytes ws → FencePromise bytes vs → ws ≡ vs
 fences-once bytes ws vs h k = which (decode bytes) h k
   where
-    which : (d : Decoded) → MeansOf d ws → MeansOf d vs → ws ≡ vs
+    which : (d : Decoded) → FenceOf d ws → FenceOf d vs → ws ≡ vs
     which (accepted j) h k =
-        h .answer ∙ ap checked-words (one-fence-answer j (h .checked) (k .checked) (h .means) (k .means)) ∙ sym (k .answer)
+        h .answer ∙ ap checked-words (one-fence-answer (j .threads) (h .checked) (k .checked) (h .means) (k .means)) ∙ sym (k .answer)
     which (refused number offset) h k = h ∙ sym k
 
-pub fences-accepted : (bytes ws : List ℕ) (j : Job) → decode bytes ≡ accepted j → MeansFor j ws → FencesMean bytes ws
-fences-accepted bytes ws j e = subst (λ d. MeansOf d ws) (sym e)
+pub fences-accepted : (bytes ws : List ℕ) (j : Job) → decode bytes ≡ accepted j → FenceFor (j .threads) ws → FencePromise bytes ws
+fences-accepted bytes ws j e = subst (λ d. FenceOf d ws) (sym e)
 
-pub fences-refused : (bytes : List ℕ) (number offset : ℕ) → decode bytes ≡ refused number offset → FencesMean bytes (refusal-words number offset)
-fences-refused bytes number offset e = subst (λ d. MeansOf d (refusal-words number offset)) (sym e) refl
+pub fences-refused : (bytes : List ℕ) (number offset : ℕ) → decode bytes ≡ refused number offset → FencePromise bytes (refusal-words number offset)
+fences-refused bytes number offset e = subst (λ d. FenceOf d (refusal-words number offset)) (sym e) refl
 
 -- The words tell the answers apart: from the words back to the case.
 case-of : List ℕ → Answer

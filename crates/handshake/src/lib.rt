@@ -48,7 +48,7 @@ pub extern "C" fn handshake_search(
     answer: &mut [u64; 4],
 )
     ensures { λ _. ⌜
-        search-meaning.SearchMeans (now (job .entry))
+        search-meaning.SearchPromise (now (job .entry))
         (record { table = now (table .entry); links = now (links .entry); schedule = now (schedule .entry) }) (now (answer .exit))
         (record { table = now (table .exit); links = now (links .exit); schedule = now (schedule .exit) })
         ⌝ }
@@ -59,7 +59,7 @@ pub extern "C" fn handshake_search(
 
 #[no_mangle]
 pub extern "C" fn handshake_replay(job: &[u8], schedule: &[u8], answer: &mut [u64; 4])
-    ensures { λ _. ⌜ replay-meaning.ReplayMeans (now (job .entry)) (now (schedule .entry)) (now (answer .exit)) ⌝ }
+    ensures { λ _. ⌜ replay-meaning.ReplayPromise (now (job .entry)) (now (schedule .entry)) (now (answer .exit)) ⌝ }
 {
     let replayed = replay_words(replay::replay(job, schedule));
     *answer = replayed;
@@ -67,7 +67,7 @@ pub extern "C" fn handshake_replay(job: &[u8], schedule: &[u8], answer: &mut [u6
 
 #[no_mangle]
 pub extern "C" fn handshake_fences(job: &[u8], answer: &mut [u64; 4])
-    ensures { λ _. ⌜ fences-meaning.FencesMean (now (job .entry)) (now (answer .exit)) ⌝ }
+    ensures { λ _. ⌜ fences-meaning.FencePromise (now (job .entry)) (now (answer .exit)) ⌝ }
 {
     let checked = fences_words(fences::fences(job));
     *answer = checked;

@@ -1,108 +1,150 @@
--- The stages in a row are the file's fields, and how far each of them comes.
-use mathlib.Core.Path.{_≡_, refl, sym, ap, _∙_}
+-- The stages in a row come as far as the file's fields, and what a good head says.
+use mathlib.Core.Path.{_≡_, refl, ap, _∙_}
 use mathlib.Core.Bool.{Bool, true, false, cond}
 use mathlib.Core.List.{List}
 use mathlib.Core.Option.{some}
-use Prim.Native.Nat.{ℕ, suc, _+_, _≤_, _<_, min}
+use Prim.Native.Nat.{ℕ, zero, suc, _+_, _≤_, _<_}
 use native.Mathlib.Omega.{arith}
-use borrow.Author.Tests.{leb-true, leb-false}
-use lib.Dec.{eqb, leb}
-use lib.ListN.{length, getD}
-use Rattle.rules.specs.Limits.{most-threads, most-variables, most-clauses}
-use Rattle.rules.specs.File.{Read, got, fault, Reader, after, _>>=_, times, field, in-range, model-of, capacity-of, flag-of, thread, clause, ended, fields}
-use Rattle.rules.specs.declared.Model.{Model}
-use Rattle.rules.specs.declared.Instr.{Instr}
+use native.Mathlib.Decide.{decLt}
+use lib.Dec.{eqb}
+use lib.ListN.{length}
+use Rattle.rules.specs.Limits.{file-version, most-threads, most-variables, most-clauses, length-size, head-size}
+use Rattle.rules.specs.Job.{Job}
+use Rattle.rules.specs.File.{Read, got, fault, Reader, read-on, _>>=_, times, judged, byte, field, in-range, model-of, capacity-of, flag-of, clause, ended, fields, length-ok, refused, decoded, decode}
 use Rattle.rules.specs.declared.Clause.{Clause}
-use Rattle.job.specs.declared.Next.{Next}
-use Rattle.job.specs.declared.Next.the-variants.{At, Fault}
-use Rattle.job.specs.Passed.{passed, chain, then}
-use Rattle.job.specs.Stages.{head, counted, ending, goal, job-of, rest, threads-before}
-use Rattle.job.proofs.Readers.{regroup, done-then, passed-then, passed-first, passed-made, times-none, times-last}
-use Rattle.job.proofs.Fields.{field-got, range-got, same-field, model-has, flag-has}
+use Rattle.readers.specs.declared.Next.{Next}
+use Rattle.readers.specs.declared.Next.the-variants.{At, Fault}
+use Rattle.readers.specs.Passed.{version-at, model-at, capacity-at, threads-at, variables-at, vars-in, model-in, passed, listed, chain, then}
+use Rattle.job.specs.Passed.{answer, answer-of}
+use Rattle.readers.specs.Stages.{length-stage, head-stage}
+use Rattle.job.specs.Stages.{values-stage, threads-read, threads-of, ending, clauses-stage, goal-stage, rest-stage}
+use Rattle.job.specs.Laid.{HeadGood}
+use Rattle.readers.proofs.Readers.{item-there, passed-then, passed-first, then-got, times-none, times-next, items-laid, got-of-passed}
+use Rattle.readers.proofs.Fields.{field-missing, field-got, field-passed, range-got}
+
+then-first : (a b c : Next) → then (then a b) c ≡ then a (then b c)
+then-first (At p) b c = refl
+then-first (Fault number offset) b c = refl
+
+-- both came to their ends
+both-at : (a b : Next) (p : ℕ) → then a b ≡ At p → (q : ℕ) × (a ≡ At q) × (b ≡ At p)
+both-at (At q) b p e = (q, refl, e)
+both-at (Fault number offset) b p e = absurd (let z : _≡_ {A = ℕ} 0 1 = cc in omega arith)
+
+answer-decoded : (x : Read Job) → answer-of (decoded x) ≡ answer (passed x)
+unfolding decoded
+answer-decoded (got j next) = refl
+answer-decoded (fault number offset) = refl
 
 module _ (bytes : List ℕ) where
-  pub head-first : (at : ℕ) → fields bytes at ≡ (head bytes >>= rest bytes) at
-  unfolding fields head rest goal counted job-of
-  head-first =
-      regroup _ _ _ _ λ version.
-      regroup _ _ _ _ λ model.
-      regroup _ _ _ _ λ capacity.
-      regroup _ _ _ _ λ count.
-      regroup _ _ _ _ λ vars at. sym (done-then _ (rest bytes) at)
-
-  pub threads-none : (vars count start : ℕ) → threads-before bytes vars count start 0 ≡ At start
-  unfolding threads-before
-  threads-none vars count start =
-      let m : min 0 count ≡ 0 = omega arith in rw m (ap passed (times-none (thread bytes vars) start))
-
-  pub threads-step : (vars count start t : ℕ) → t < count →
-      threads-before bytes vars count start (t + 1) ≡ chain (threads-before bytes vars count start t) (λ p. passed (thread bytes vars p))
-  unfolding threads-before
-  threads-step vars count start t h =
-      let m : min (t + 1) count ≡ suc (min t count) = omega arith in rw m (times-last (thread bytes vars) (min t count) start)
-
-  pub threads-stay : (vars count start t : ℕ) → count ≤ t →
-      threads-before bytes vars count start (t + 1) ≡ threads-before bytes vars count start t
-  unfolding threads-before
-  threads-stay vars count start t h = let m : min (t + 1) count ≡ min t count = omega arith in rw m
-
-  pub threads-fault : (vars count start t number offset : ℕ) → threads-before bytes vars count start t ≡ Fault number offset →
-      threads-before bytes vars count start (t + 1) ≡ Fault number offset
-  threads-fault vars count start t number offset e = go (leb count t) refl
-    where
-      go : (b : Bool) → leb count t ≡ b → threads-before bytes vars count start (t + 1) ≡ Fault number offset
-      go true h = threads-stay vars count start t (leb-true count t h) ∙ e
-      go false h = threads-step vars count start t (leb-false count t h) ∙ ap (λ x. chain x (λ p. passed (thread bytes vars p))) e
-
-  -- the five fields of the head, each where it stands; C's range goes by the model
-  pub head-passed : (pending : Next) →
-      ((m : Model) → model-of (getD bytes 3 0) ≡ some m → pending ≡ passed (field bytes 3 (capacity-of m) 4)) →
-      passed (head bytes 2)
-      ≡ then (passed (field bytes 2 (in-range 1 1) 2))
-      (then (passed (field bytes 3 (in-range 0 2) 3))
-      (then pending
-      (then (passed (field bytes 3 (in-range 1 most-threads) 5))
-      (passed (field bytes 3 (in-range 1 most-variables) 6)))))
-  unfolding head
-  head-passed pending h =
-      passed-first _ _ _ 2 λ version p e.
-      rw (field-got _ _ _ _ _ _ e .behind, ← same-field model-of (in-range 0 2) model-has bytes 3 3)
-      (passed-first _ _ _ 3 λ model q f.
-      rw (field-got _ _ _ _ _ _ f .behind, h model (field-got _ _ _ _ _ _ f .holds))
-      (passed-first _ _ _ 4 λ capacity r g.
-      rw (field-got _ _ _ _ _ _ g .behind)
-      (passed-first _ _ _ 5 λ count s k.
-      rw (field-got _ _ _ _ _ _ k .behind)
-      (passed-made _ _ 6))))
-
   ended-passed : {A B : Type 0} (r : Reader A) (make : A → B) (at : ℕ) → passed ((r >>= λ a. ended bytes (make a)) at) ≡ ending bytes (passed (r at))
-  unfolding _>>=_ after ended
+  unfolding _>>=_ read-on ended
   ended-passed {A} {B} r make at = go (r at)
     where
       left : (b : Bool) (a : A) (p : ℕ) → passed (cond b (got (make a) p) (fault 6 p)) ≡ cond b (At p) (Fault 6 p)
       left true a p = refl
       left false a p = refl
 
-      go : (x : Read A) → passed (after x (λ a. ended bytes (make a))) ≡ ending bytes (passed x)
+      go : (x : Read A) → passed (read-on x (λ a. ended bytes (make a))) ≡ ending bytes (passed x)
       go (got a p) = left (eqb p (length bytes)) a p
       go (fault number offset) = refl
 
-  pub counted-passed : {A : Type 0} (vars : ℕ) (threads : List (List Instr)) (make : List Clause → A) (at : ℕ) →
-      passed (counted bytes vars threads make at)
-      ≡ chain (passed (field bytes 5 (in-range 0 most-clauses) at)) (λ p. ending bytes (passed (times (getD bytes at 0) (clause bytes vars threads) p)))
-  unfolding counted
-  counted-passed vars threads make at =
-      passed-then (field bytes 5 (in-range 0 most-clauses)) _ _ at
-      (λ K p e.
-      ended-passed (times K (clause bytes vars threads)) make p
-      ∙ ap (λ k. ending bytes (passed (times k (clause bytes vars threads) p))) (range-got 0 most-clauses _ K (field-got bytes 5 _ at K p e .holds) .is))
+  -- how far the goal's reader comes does not go by what is made of it
+  goal-passed : (make : Bool → List Clause → Job) (at : ℕ) →
+      passed
+      ((field bytes 5 flag-of >>= λ flag.
+      field bytes 5 (in-range 0 most-clauses) >>= λ K.
+      times K (clause bytes (vars-in bytes) (threads-of bytes)) >>= λ clauses. ended bytes (make flag clauses)) at)
+      ≡ goal-stage bytes at
+  unfolding goal-stage clauses-stage
+  goal-passed make at =
+      passed-then (field bytes 5 flag-of) _ _ at
+      (λ flag p e.
+      passed-then (field bytes 5 (in-range 0 most-clauses)) _ _ p
+      (λ K q f.
+      ended-passed (times K (clause bytes (vars-in bytes) (threads-of bytes))) (make flag) q
+      ∙ ap (λ k. ending bytes (passed (times k (clause bytes (vars-in bytes) (threads-of bytes)) q))) (range-got 0 most-clauses _ K (field-got bytes 5 _ p K q f .holds) .is)))
 
-  -- how far the goal's reader comes does not go by the flag
-  pub goal-passed : {A : Type 0} (vars : ℕ) (threads : List (List Instr)) (make : Bool → List Clause → A) (at : ℕ) →
-      passed (goal bytes vars threads make at)
-      ≡ chain (passed (field bytes 5 (in-range 0 1) at)) (λ p. passed (counted bytes vars threads (make true) p))
-  unfolding goal
-  goal-passed vars threads make at =
-      rw (← same-field flag-of (in-range 0 1) flag-has bytes 5 at)
-      (passed-then (field bytes 5 flag-of) _ _ at
-      (λ flag p e. counted-passed vars threads (make flag) p ∙ sym (counted-passed vars threads (make true) p)))
+  value-there : (at : ℕ) → at < length bytes → passed (field bytes 6 some at) ≡ At (at + 1)
+  unfolding field judged
+  value-there at h = ap passed (item-there bytes 1 6 (λ p. some (byte bytes p)) at (omega arith))
+
+  values-there : (k at : ℕ) → at + k ≤ length bytes → passed (times k (field bytes 6 some) at) ≡ At (at + k)
+  values-there zero at h = let d : at ≡ at + 0 = omega arith in ap passed (times-none (field bytes 6 some) at) ∙ ap {B = Next} At d
+  values-there (suc k) at h =
+      let d : at + 1 + k ≡ at + suc k = omega arith in
+      rw (times-next (field bytes 6 some) k at, value-there at (omega arith)) (values-there k (at + 1) (omega arith) ∙ ap {B = Next} At d)
+
+  values-missing : (k at : ℕ) → at ≤ length bytes → length bytes < at + k → passed (times k (field bytes 6 some) at) ≡ Fault 6 (length bytes)
+  values-missing zero at h m = absurd (omega arith)
+  values-missing (suc k) at h m = rw (times-next (field bytes 6 some) k at) (go (decLt at (length bytes)) (λ n. values-missing k (at + 1) n (omega arith)))
+    where
+      go :
+          Dec (at < length bytes) → (at + 1 ≤ length bytes → passed (times k (field bytes 6 some) (at + 1)) ≡ Fault 6 (length bytes)) →
+          chain (passed (field bytes 6 some at)) (λ p. passed (times k (field bytes 6 some) p)) ≡ Fault 6 (length bytes)
+      go (yes n) later = rw (value-there at n) (later (omega arith))
+      go (no n) later = let d : at ≡ length bytes = omega arith in rw (field-missing bytes 6 some at (omega arith)) (ap {B = Next} (Fault 6) d)
+
+  pub values-stage-there : head-size + vars-in bytes ≤ length bytes → values-stage bytes ≡ At (head-size + vars-in bytes)
+  unfolding values-stage
+  values-stage-there = values-there (vars-in bytes) head-size
+
+  pub values-stage-missing : head-size ≤ length bytes → length bytes < head-size + vars-in bytes → values-stage bytes ≡ Fault 6 (length bytes)
+  unfolding values-stage
+  values-stage-missing = values-missing (vars-in bytes) head-size
+
+  -- the initial values end behind so many bytes
+  values-behind : (k at : ℕ) (l : List ℕ) (next : ℕ) → times k (field bytes 6 some) at ≡ got l next → next ≡ at + k
+  unfolding field
+  values-behind k at l next e = let h = items-laid bytes 1 6 _ k at l next e in omega (arith, h .behind)
+
+  pub values-then : {B : Type 0} (f : List ℕ → Reader B) (k at : ℕ) (b : B) (next : ℕ) → (times k (field bytes 6 some) >>= f) at ≡ got b next →
+      (l : List ℕ) × (times k (field bytes 6 some) at ≡ got l (at + k)) × (f l (at + k) ≡ got b next)
+  values-then f k at b next e =
+      let t = then-got (times k (field bytes 6 some)) f at b next e in
+      let p = values-behind k at (t .0) (t .1) (t .2) in
+      (t .0, rw (← p) (t .2), rw (← p) (t .3))
+
+  pub fields-passed : passed (fields bytes length-size) ≡ then (head-stage bytes) (rest-stage bytes)
+  unfolding fields head-stage rest-stage values-stage threads-read threads-of
+  fields-passed =
+      rw (then-first, then-first, then-first, then-first)
+      (passed-first _ _ _ version-at λ version p e.
+      rw (field-got _ _ _ _ _ _ e .behind)
+      (passed-first _ _ _ model-at λ model q f.
+      rw (field-got _ _ _ _ _ _ f .behind, field-got _ _ _ _ _ _ f .holds)
+      (passed-first _ _ _ capacity-at λ capacity r g.
+      rw (field-got _ _ _ _ _ _ g .behind)
+      (passed-first _ _ _ threads-at λ count s k.
+      rw (field-got _ _ _ _ _ _ k .behind, range-got _ _ _ _ (field-got _ _ _ _ _ _ k .holds) .is)
+      (passed-first _ _ _ variables-at λ vars u l.
+      rw (field-got _ _ _ _ _ _ l .behind, range-got _ _ _ _ (field-got _ _ _ _ _ _ l .holds) .is)
+      (passed-first _ _ _ head-size λ initial v m.
+      rw (values-behind _ _ _ _ m)
+      (passed-then _ _ _ (head-size + vars-in bytes) λ threads w n. rw (← ap listed n) (goal-passed _ w))))))))
+
+  -- what the bytes are is what the stages come to
+  pub decode-stages : answer-of (decode bytes) ≡ answer (then (then (length-stage bytes) (head-stage bytes)) (rest-stage bytes))
+  unfolding decode length-stage
+  decode-stages = go (length-ok bytes)
+    where
+      go :
+          (b : Bool) → answer-of (cond b (decoded (fields bytes length-size)) (refused 1 0))
+          ≡ answer (then (then (cond b (At version-at) (Fault 1 0)) (head-stage bytes)) (rest-stage bytes))
+      go true = answer-decoded (fields bytes length-size) ∙ ap answer fields-passed
+      go false = refl
+
+  pub head-good : (p : ℕ) → then (length-stage bytes) (head-stage bytes) ≡ At p → HeadGood bytes
+  unfolding head-stage
+  head-good p e =
+      let version = both-at (length-stage bytes) _ p e .2 in
+      let model = both-at (passed (field bytes 2 (in-range file-version file-version) version-at)) _ p version .2 in
+      let capacity = both-at (passed (field bytes 3 model-of model-at)) _ p model .2 in
+      let count = both-at (passed (field bytes 3 (capacity-of (model-in bytes)) capacity-at)) _ p capacity .2 in
+      let both = both-at (passed (field bytes 3 (in-range 1 most-threads) threads-at)) _ p count in
+      let held = got-of-passed (field bytes 3 (in-range 1 most-threads) threads-at) _ (both .1) in
+      let t = range-got 1 most-threads _ (held .0) (field-got bytes 3 _ threads-at (held .0) _ (held .1) .holds) in
+      record {
+        there = field-passed bytes 3 (in-range 1 most-variables) variables-at p (both .2);
+        most = omega (arith, t .is, t .most);
+      }

@@ -1,52 +1,68 @@
 -- From the decoder's answer to the job: for whoever calls it.
-use mathlib.Core.Path.{_≡_, sym, ap, _∙_, subst}
+use mathlib.Core.Path.{_≡_, refl, sym, _∙_}
 use mathlib.Core.List.{List}
-use Prim.Native.Nat.{ℕ}
+use Prim.Native.Nat.{ℕ, _<_}
 use native.Mathlib.Omega.{arith}
-use Rattle.rules.specs.Job.{Job}
-use Rattle.rules.specs.File.{accepted, refused, decode}
+use native.Mathlib.Decide.{decLt}
+use lib.ListN.{getD}
+use lib.Seq.{ext-getD}
+use Rattle.rules.specs.File.{accepted, refused, decode, held-job, job-of}
+use Rattle.rules.specs.File as file
 use Rattle.job.specs.declared.Layout.{Layout}
+use Rattle.job.specs.declared.Starts.{Starts}
+use Rattle.readers.specs.declared.Next.the-variants.{At}
 use Rattle.job.specs.declared.Decoded.{Decoded}
 use Rattle.job.specs.declared.Decoded.the-variants.{Accepted, Refused}
-use Rattle.job.specs.Laid.{code-at, Laid, IsAccepted, Means}
+use Rattle.readers.specs.Passed.{count-in}
+use Rattle.job.specs.Passed.{answer-of}
+use Rattle.job.specs.Laid.{StartsLaid, IsAccepted}
 
--- bytes hold one job alone
-pub accepted-once : (bytes : List ℕ) (i j : Job) → decode bytes ≡ accepted i → decode bytes ≡ accepted j → i ≡ j
-accepted-once bytes i j p q = cc
+-- bytes that the decoder accepts hold a job
+pub is-accepted : (bytes : List ℕ) → answer-of (decode bytes) ≡ Accepted → decode bytes ≡ accepted (job-of bytes)
+unfolding job-of held-job
+is-accepted bytes e = go (decode bytes) e
+  where
+    go : (d : file.Decoded) → answer-of d ≡ Accepted → d ≡ accepted (held-job d)
+    go (accepted j) e = refl
+    go (refused number offset) e = absurd (let z : _≡_ {A = ℕ} 0 1 = cc in omega arith)
 
-pub accepted-of : (bytes : List ℕ) (r : Decoded) (l : Layout) → r ≡ Accepted l → Means bytes r → IsAccepted bytes l
-accepted-of bytes r l e = subst (Means bytes) e
+-- it refuses by the file's own number and offset
+pub is-refused : (bytes : List ℕ) (number offset : ℕ) → answer-of (decode bytes) ≡ Refused number offset → decode bytes ≡ refused number offset
+is-refused bytes number offset e = go (decode bytes) e
+  where
+    go : (d : file.Decoded) → answer-of d ≡ Refused number offset → d ≡ refused number offset
+    go (accepted j) e = absurd (let z : _≡_ {A = ℕ} 0 1 = cc in omega arith)
+    go (refused k o) e = let n : k ≡ number = cc in let p : o ≡ offset = cc in λ i. refused (n i) (p i)
 
-pub refused-of : (bytes : List ℕ) (r : Decoded) (number offset : ℕ) → r ≡ Refused number offset → Means bytes r →
-    decode bytes ≡ refused number offset
-refused-of bytes r number offset e = subst (Means bytes) e
+-- threads and goal begin in one way alone
+starts-once : (bytes : List ℕ) (s r : Starts) → StartsLaid bytes s → StartsLaid bytes r → s ≡ r
+starts-once bytes s r h k = λ i. record { threads = threads i; goal = goal i }
+  where
+    goal : s .goal ≡ r .goal
+    goal = let d : At (s .goal) ≡ At (r .goal) = sym (h .goal) ∙ k .goal in cc
 
--- a job stands in its bytes in one way alone
-pub laid-once : (bytes : List ℕ) (j : Job) (l m : Layout) → Laid bytes l j → Laid bytes m j → l ≡ m
-unfolding code-at
-laid-once bytes j l m h k =
+    each : (t : ℕ) → Dec (t < count-in bytes) → getD (s .threads) t 0 ≡ getD (r .threads) t 0
+    each t (yes l) = let d : At (getD (s .threads) t 0) ≡ At (getD (r .threads) t 0) = sym (h .threads t l) ∙ k .threads t l in cc
+    each t (no l) = h .absent t (omega arith) ∙ sym (k .absent t (omega arith))
+
+    threads : s .threads ≡ r .threads
+    threads = ext-getD 0 (s .threads) (r .threads) (h .room ∙ sym (k .room)) (λ t l. each t (decLt t (count-in bytes)))
+
+-- any two layouts that the promise allows are equal
+pub layout-once : (bytes : List ℕ) (l m : Layout) → IsAccepted bytes l → IsAccepted bytes m → l ≡ m
+layout-once bytes l m a b =
+    let h = a .laid in
+    let k = b .laid in
     λ i.
     record {
+      version = (h .version ∙ sym (k .version)) i;
       model = (h .model ∙ sym (k .model)) i;
       capacity = (h .capacity ∙ sym (k .capacity)) i;
       threads = (h .threads ∙ sym (k .threads)) i;
       vars = (h .vars ∙ sym (k .vars)) i;
-      code0 = (h .begins 0 ∙ sym (k .begins 0)) i;
-      code1 = (h .begins 1 ∙ sym (k .begins 1)) i;
-      code2 = (h .begins 2 ∙ sym (k .begins 2)) i;
-      code3 = (h .begins 3 ∙ sym (k .begins 3)) i;
-      goal = same-goal i;
+      starts = starts-once bytes (l .starts) (m .starts) (h .starts) (k .starts) i;
     }
-  where
-    same-goal : l .goal ≡ m .goal
-    same-goal = omega (arith, h .ends, k .ends)
 
 -- any two answers that the promise allows are equal
-pub decode-once : (bytes : List ℕ) (r s : Decoded) → Means bytes r → Means bytes s → r ≡ s
-decode-once bytes (Accepted l) (Accepted m) h k =
-    ap {B = Decoded} Accepted
-    (laid-once bytes (h .job) l m (h .laid) (subst (Laid bytes m) (accepted-once bytes (k .job) (h .job) (k .decoded) (h .decoded)) (k .laid)))
-decode-once bytes (Accepted l) (Refused number offset) h k = absurd (let d : accepted (h .job) ≡ refused number offset = sym (h .decoded) ∙ k in let z : _≡_ {A = ℕ} 0 1 = cc in omega arith)
-decode-once bytes (Refused number offset) (Accepted l) h k = absurd (let d : accepted (k .job) ≡ refused number offset = sym (k .decoded) ∙ h in let z : _≡_ {A = ℕ} 0 1 = cc in omega arith)
-decode-once bytes (Refused number offset) (Refused other place) h k =
-    let d : refused number offset ≡ refused other place = sym h ∙ k in cc
+pub decode-once : (bytes : List ℕ) (r s : Decoded) → r ≡ answer-of (decode bytes) → s ≡ answer-of (decode bytes) → r ≡ s
+decode-once bytes r s h k = h ∙ sym k

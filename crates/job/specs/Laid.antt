@@ -1,62 +1,62 @@
 -- What a layout says of a job's bytes.
 use mathlib.Core.Path.{_≡_}
-use mathlib.Core.List.{List, [], _∷_}
-use mathlib.Core.Option.{Option, some}
-use Prim.Native.Nat.{ℕ, zero, suc, _+_, _-_, _*_, _≤_, _<_}
+use mathlib.Core.Bool.{Bool}
+use mathlib.Core.List.{List}
+use mathlib.Core.Option.{some}
+use Prim.Native.Nat.{ℕ, _+_, _*_, _≤_, _<_}
 use lib.ListN.{length, getD, getElem?}
+use Rattle.rules.specs.Limits.{most-threads, head-size, item-size}
 use Rattle.rules.specs.Job.{Job}
 use Rattle.rules.specs.File as file
 use Rattle.rules.specs.Sound.{JobIn}
-use Rattle.rules.specs.declared.Instr.{Instr}
+use Rattle.rules.specs.declared.Clause.{Clause}
 use Rattle.job.specs.declared.Layout.{Layout}
-use Rattle.job.specs.declared.Decoded.{Decoded}
-use Rattle.job.specs.declared.Decoded.the-variants.{Accepted, Refused}
+use Rattle.job.specs.declared.Starts.{Starts}
+use Rattle.readers.specs.declared.Next.the-variants.{At}
+use Rattle.readers.specs.Passed.{count-in, vars-in, passed}
+use Rattle.job.specs.Passed.{clause-in-bytes}
+use Rattle.job.specs.Stages.{threads-read, threads-of}
 
--- where thread t's instructions begin
-unfoldable pub code-at : Layout → ℕ → ℕ
-code-at l t = getD (l .code0 ∷ l .code1 ∷ l .code2 ∷ l .code3 ∷ []) t 0
+-- a head that was good: its bytes are there, and the threads that it counts have room in a layout
+pub record HeadGood (bytes : List ℕ) : Type 0 where
+  pub there : head-size ≤ length bytes
+  pub most : count-in bytes ≤ most-threads
 
--- where thread t's instructions begin, if the first thread's n stands at `at`; 0 for a thread that is not there
-unfoldable pub begins-at : ℕ → List (List Instr) → ℕ → ℕ
-begins-at at [] t = 0
-begins-at at (code ∷ rest) zero = at + 1
-begins-at at (code ∷ rest) (suc t) = begins-at (at + 1 + 4 * length code) rest t
+-- threads that were good, behind such a head
+pub record ThreadsGood (bytes : List ℕ) : Type 0 where
+  pub head : HeadGood bytes
+  pub end : ℕ
+  pub read : passed (threads-read bytes (count-in bytes)) ≡ At end
 
--- a thread's n stands just before its instructions, which are all there
-pub record ThreadLaid (bytes : List ℕ) (vars start : ℕ) (code : List Instr) : Type 0 where
-  pub after-length : 1 ≤ start
-  pub number : getD bytes (start - 1) 0 ≡ length code
-  pub inside : start + 4 * length code ≤ length bytes
-  pub instructions :
-      (p : ℕ) → p < length code →
-      file.instruction-of vars (length code) (getD bytes (start + 4 * p) 0) (getD bytes (start + 4 * p + 1) 0) (getD bytes (start + 4 * p + 2) 0) (getD bytes (start + 4 * p + 3) 0)
-      ≡ getElem? code p
+-- each thread begins, with its n, where reading those before it has come to, and the goal behind them all; 0 for a thread that is not there
+pub record StartsLaid (bytes : List ℕ) (s : Starts) : Type 0 where
+  pub head : HeadGood bytes
+  pub room : length (s .threads) ≡ most-threads
+  pub threads : (t : ℕ) → t < count-in bytes → passed (threads-read bytes t) ≡ At (getD (s .threads) t 0)
+  pub absent : (t : ℕ) → count-in bytes ≤ t → getD (s .threads) t 0 ≡ 0
+  pub goal : passed (threads-read bytes (count-in bytes)) ≡ At (s .goal)
+
+-- a goal whose flag stands at `at`: K behind it, and then the clauses, up to the end
+pub record GoalLaid (bytes : List ℕ) (at : ℕ) (flag : Bool) (clauses : List Clause) : Type 0 where
+  pub flag-is : file.flag-of (getD bytes at 0) ≡ some flag
+  pub number : getD bytes (at + 1) 0 ≡ length clauses
+  pub ends : at + 2 + item-size * length clauses ≡ length bytes
+  pub clauses-are : (i : ℕ) → i < length clauses → clause-in-bytes bytes (vars-in bytes) (threads-of bytes) (at + 2 + item-size * i) ≡ getElem? clauses i
 
 pub record Laid (bytes : List ℕ) (l : Layout) (j : Job) : Type 0 where
+  pub version : l .version ≡ j .version
   pub model : l .model ≡ j .model
   pub capacity : l .capacity ≡ j .capacity
   pub threads : l .threads ≡ length (j .threads)
   pub vars : l .vars ≡ length (j .initial)
-  pub initial-inside : 7 + length (j .initial) ≤ length bytes
-  pub initial : (i : ℕ) → i < length (j .initial) → getD bytes (7 + i) 0 ≡ getD (j .initial) i 0
-  pub code : (t : ℕ) (code : List Instr) → getElem? (j .threads) t ≡ some code → ThreadLaid bytes (length (j .initial)) (code-at l t) code
-  pub begins : (t : ℕ) → code-at l t ≡ begins-at (7 + length (j .initial)) (j .threads) t
-  pub flag : file.flag-of (getD bytes (l .goal) 0) ≡ some (j .all-empty)
-  pub clauses-number : getD bytes (l .goal + 1) 0 ≡ length (j .clauses)
-  pub ends : l .goal + 2 + 4 * length (j .clauses) ≡ length bytes
-  pub clauses :
-      (i : ℕ) → i < length (j .clauses) →
-      file.clause-of (length (j .initial)) (j .threads) (getD bytes (l .goal + 2 + 4 * i) 0) (getD bytes (l .goal + 2 + 4 * i + 1) 0) (getD bytes (l .goal + 2 + 4 * i + 2) 0) (getD bytes (l .goal + 2 + 4 * i + 3) 0)
-      ≡ getElem? (j .clauses) i
+  pub initial-inside : head-size + length (j .initial) ≤ length bytes
+  pub initial : (i : ℕ) → i < length (j .initial) → getD bytes (head-size + i) 0 ≡ getD (j .initial) i 0
+  pub starts : StartsLaid bytes (l .starts)
+  pub code : threads-of bytes ≡ j .threads
+  pub goal : GoalLaid bytes (l .starts .goal) (j .all-empty) (j .clauses)
 
--- an accepted job with its layout
+-- bytes that hold a job, and its layout
 pub record IsAccepted (bytes : List ℕ) (l : Layout) : Type 0 where
-  pub job : Job
-  pub decoded : file.decode bytes ≡ file.accepted job
-  pub in-range : JobIn job
-  pub laid : Laid bytes l job
-
--- what the decoder's answer means, for any bytes
-abbrev pub Means : List ℕ → Decoded → Type 0
-Means bytes (Accepted l) = IsAccepted bytes l
-Means bytes (Refused number offset) = file.decode bytes ≡ file.refused number offset
+  pub decoded : file.decode bytes ≡ file.accepted (file.job-of bytes)
+  pub in-range : JobIn (file.job-of bytes)
+  pub laid : Laid bytes l (file.job-of bytes)

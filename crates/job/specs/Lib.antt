@@ -1,6 +1,4 @@
-pub mod Laid
-pub mod JobOf
 pub mod Passed
 pub mod Stages
-pub mod Threads
-pub mod Accepts
+pub mod Laid
+pub mod JobOf

@@ -1,60 +1,45 @@
--- The file's fields in the stages in which the decoder reads them: the head; the initial values and the threads; the goal.
-use mathlib.Core.Bool.{Bool, cond}
+-- How far reading comes behind the head, in the stages in which the decoder reads: the initial values; the threads; the goal.
+use mathlib.Core.Bool.{cond}
 use mathlib.Core.List.{List}
 use mathlib.Core.Option.{some}
-use Prim.Native.Nat.{ℕ, min}
+use Prim.Native.Nat.{ℕ, _+_}
 use lib.Dec.{eqb}
-use lib.ListN.{length}
-use Rattle.rules.specs.Limits.{most-threads, most-variables, most-clauses}
-use Rattle.rules.specs.Job.{Job}
-use Rattle.rules.specs.File.{Reader, _>>=_, done, times, field, in-range, model-of, capacity-of, flag-of, thread, clause, ended}
-use Rattle.rules.specs.declared.Model.{Model}
+use lib.ListN.{length, getD}
+use Rattle.rules.specs.Limits.{most-clauses, head-size}
+use Rattle.rules.specs.File.{Read, times, field, in-range, flag-of, thread, clause}
 use Rattle.rules.specs.declared.Instr.{Instr}
-use Rattle.rules.specs.declared.Clause.{Clause}
-use Rattle.job.specs.declared.Next.{Next}
-use Rattle.job.specs.declared.Next.the-variants.{At, Fault}
-use Rattle.job.specs.Passed.{passed}
-
--- what the fields before the initial values hold
-pub record Head : Type 0 where
-  pub model : Model
-  pub capacity : ℕ
-  pub count : ℕ
-  pub vars : ℕ
-
-unfoldable pub job-of : Head → List ℕ → List (List Instr) → Bool → List Clause → Job
-job-of h initial threads flag clauses =
-    record { model = h .model; capacity = h .capacity; initial = initial; threads = threads; all-empty = flag; clauses = clauses }
+use Rattle.readers.specs.declared.Next.{Next}
+use Rattle.readers.specs.declared.Next.the-variants.{At, Fault}
+use Rattle.readers.specs.Passed.{count-in, vars-in, passed, listed, then, chain}
 
 module _ (bytes : List ℕ) where
-  unfoldable pub head : Reader Head
-  head =
-      field bytes 2 (in-range 1 1) >>= λ version.
-      field bytes 3 model-of >>= λ model.
-      field bytes 3 (capacity-of model) >>= λ capacity.
-      field bytes 3 (in-range 1 most-threads) >>= λ count.
-      field bytes 3 (in-range 1 most-variables) >>= λ vars.
-      done (record { model = model; capacity = capacity; count = count; vars = vars })
+  -- the initial values, each a field
+  unfoldable pub values-stage : Next
+  values-stage = passed (times (vars-in bytes) (field bytes 6 some) head-size)
 
-  -- K and its clauses, up to the file's end
-  unfoldable pub counted : {A : Type 0} → (vars : ℕ) → List (List Instr) → (List Clause → A) → Reader A
-  counted vars threads make =
-      field bytes 5 (in-range 0 most-clauses) >>= λ K. times K (clause bytes vars threads) >>= λ clauses. ended bytes (make clauses)
+  -- the first t threads, behind the initial values
+  unfoldable pub threads-read : ℕ → Read (List (List Instr))
+  threads-read t = times t (thread bytes (vars-in bytes)) (head-size + vars-in bytes)
+
+  -- all of them; none, where they are refused
+  unfoldable pub threads-of : List (List Instr)
+  threads-of = listed (threads-read (count-in bytes))
 
   -- what is read must end where the bytes do
   abbrev pub ending : Next → Next
   ending (At at) = cond (eqb at (length bytes)) (At at) (Fault 6 at)
   ending (Fault number offset) = Fault number offset
 
-  unfoldable pub goal : {A : Type 0} → (vars : ℕ) → List (List Instr) → (Bool → List Clause → A) → Reader A
-  goal vars threads make = field bytes 5 flag-of >>= λ flag. counted vars threads (make flag)
+  -- K and as many clauses over the threads, and no byte more
+  unfoldable pub clauses-stage : ℕ → Next
+  clauses-stage at =
+      chain (passed (field bytes 5 (in-range 0 most-clauses) at))
+      (λ next. ending (passed (times (getD bytes at 0) (clause bytes (vars-in bytes) threads-of) next)))
 
-  unfoldable pub rest : Head → Reader Job
-  rest h =
-      times (h .vars) (field bytes 6 some) >>= λ initial.
-      times (h .count) (thread bytes (h .vars)) >>= λ threads.
-      goal (h .vars) threads (job-of h initial threads)
+  -- the flag, and then K and the clauses
+  unfoldable pub goal-stage : ℕ → Next
+  goal-stage at = chain (passed (field bytes 5 flag-of at)) clauses-stage
 
-  -- the threads before thread t of a job that has `count`
-  unfoldable pub threads-before : (vars count start t : ℕ) → Next
-  threads-before vars count start t = passed (times (min t count) (thread bytes vars) start)
+  -- what stands behind the head
+  unfoldable pub rest-stage : Next
+  rest-stage = then values-stage (chain (passed (threads-read (count-in bytes))) goal-stage)

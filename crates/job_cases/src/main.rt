@@ -2,17 +2,12 @@
 use job::Decoded;
 use libc::STDIN_FILENO;
 use libc::STDOUT_FILENO;
-ghost use Prim.Native.Nat.{_≤_, _<_};
+use rules::BYTE_VALUES;
+ghost use Prim.Native.Nat.{_≤_};
 ghost use lib.ListN.{length};
 
 // A longer case ends the run: no job file is half as long.
 const LONGEST_CASE: usize = 1024;
-
-fn wide(x: u8) -> usize
-    ensures { λ r. ⌜ r < 256 ⌝ }
-{
-    x as usize
-}
 
 // A blank, and the number in decimal.
 fn print_number(n: u64) {
@@ -22,7 +17,7 @@ fn print_number(n: u64) {
 
 fn print_line(answer: Decoded) {
     match answer {
-        Decoded::Accepted(_) => {
+        Decoded::Accepted => {
             io::write_all(STDOUT_FILENO, b"ACCEPTED");
         }
         Decoded::Refused(number, offset) => {
@@ -41,7 +36,7 @@ fn read_count() -> usize {
     if got < 2 {
         return LONGEST_CASE + 1;
     }
-    wide(bytes[0]) * 256 + wide(bytes[1])
+    readers::wide(bytes[0]) * BYTE_VALUES + readers::wide(bytes[1])
 }
 
 // Whether all of the case's bytes were there.

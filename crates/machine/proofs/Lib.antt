@@ -1,2 +1,2 @@
-pub mod StateLaws
-pub mod MoveLaws
+pub mod OperandLaws
+pub mod RoomLaws

@@ -1,5 +1,1 @@
-pub mod Held
-pub mod Parts
-pub mod Moves
-pub mod InRange
-pub mod HeldLaws
+pub mod Operands

@@ -4,23 +4,24 @@ use mathlib.Core.Logic.{_⊎_, inl, inr, _↔_}
 use mathlib.Core.Bool.{Bool, true, false}
 use mathlib.Core.List.{List, [], _∷_, _++_, map, append-nil}
 use mathlib.Core.Option.{Option, none, some}
-use Prim.Native.Nat.{ℕ, zero, suc, _+_, _-_, _≤_, _<_}
+use Prim.Native.Nat.{ℕ, zero, suc, _+_, _≤_, _<_}
 use native.Mathlib.Omega.{arith}
 use native.Mathlib.Decide.{decLe}
 use lib.Dec.{T, leb, ltb}
 use borrow.Author.Tests.{leb-true, leb-false, ltb-true, ltb-false}
 use lib.ListN.{length, length-append, length-map, take, drop, take-append-drop, getElem?}
 use lib.Seq.{drop-append-seam, take-all, length-take-le}
-use Rattle.reach.specs.Lists.{_∈_, All, Pairwise, Distinct}
-use Rattle.reach.specs.ListLaws.{in-left, in-right, in-either, all-at, all-of, pairwise-left, pairwise-right, pairwise-across, pairwise-cases, pairwise-imp, no-longer, at-in, in-at, at-left, at-below, at-split, at-map, map-at, in-map, map-in}
+use Rattle.reach.specs.Lists.{_∈_, Pairwise, Distinct}
+use Rattle.reach.specs.ListLaws.{in-left, in-right, in-either, all-at, all-of, pairwise-left, pairwise-right, pairwise-across, pairwise-imp, no-longer, at-in, at-left, at-below, at-split, at-map, map-at, in-map, map-in}
 use Rattle.reach.specs.System.{System}
-use Rattle.reach.specs.Order.{Sooner, First}
+use Rattle.reach.specs.Order.{Sooner}
 use Rattle.reach.specs.OrderLaws.{sooner-irrefl, sooner-trans, sooner-total, length-snoc, last-of}
-use Rattle.reach.specs.RunLaws.{none-is-not-some, run-snoc, snoc-run, Least, least-first, first-least as least-of-first, least-unique}
-use Rattle.reach.specs.Meaning.{LeadsTo, Distance, AtMost, Reached, Counts, LeastGoal, NoGoal, GoalSchedule, FirstShortest, SlotBefore, Holds, HoldsFirst, no-link, link, LinkOf, Linked, Answer, reachable, unreachable, unknown, Outcome, IsReachable, IsUnreachable, IsUnknown, Means}
-use Rattle.reach.specs.Rows.{Row, start-row, offers, goal-row, Met, put-all, outcome, by-goal, by-rest, by-room, levels, find}
-use Rattle.reach.specs.Growth.{RowSooner, Has, has-left, add-all}
-use Rattle.reach.specs.Levels.{Behind, RowsLinked, Level, level-zero, level-next, level-at}
+use Rattle.reach.specs.RunLaws.{none-is-not-some, run-snoc, snoc-run, Least, least-first, first-least as least-of-first, least-unique, distance-reached}
+use Rattle.reach.specs.Meaning.{LeadsTo, Distance, AtMost, Reached, Counts, LeastGoal, GoalSchedule, SlotBefore, Holds, LinkOf, Linked, reachable, unreachable, unknown, Outcome, IsReachable, IsUnreachable, IsUnknown, Means}
+use Rattle.reach.specs.Searchable.{Searchable}
+use Rattle.reach.specs.Rows.{Row, start-row, offers, goal-row, outcome, by-goal, by-rest, by-room, levels, find}
+use Rattle.reach.specs.Growth.{RowSooner, Has}
+use Rattle.reach.specs.Levels.{Behind, behind-among, RowsLinked, Level, rows-within, level-zero, level-next, level-at}
 use Rattle.reach.specs.Bounded.{put-all-kept}
 
 abbrev pub states : {X : Type 0} → List (Row X) → List X
@@ -29,47 +30,41 @@ states rows = map (λ r. r .state) rows
 abbrev pub links : {X : Type 0} → List (Row X) → List ℕ
 links rows = map (λ r. r .from) rows
 
+has-state : {X : Type 0} (rows : List (Row X)) (x : X) → Has rows x → x ∈ states rows
+has-state rows x h = subst (λ z. z ∈ states rows) (h .2) (map-in (λ r. r .state) rows (h .0) (h .1))
+
 -- SlotBefore is strict
 module _ (S : System) where
   pub before-ways :
       (x y : S .State) (u v : List ℕ) → SlotBefore S x y → Least S x u → Least S y v → Sooner u v
   before-ways x y u v b h k =
-      subst (λ z. Sooner z v) (least-unique S x (b .way) u (least-of-first S x (b .way) (b .way-first)) h)
-      (subst (λ z. Sooner (b .way) z) (least-unique S y (b .later) v (least-of-first S y (b .later) (b .later-first)) k) (b .sooner))
+      subst (λ w. Sooner w v) (least-unique S x (b .way) u (least-of-first S x (b .way) (b .way-first)) h)
+      (subst (λ w. Sooner (b .way) w) (least-unique S y (b .later) v (least-of-first S y (b .later) (b .later-first)) k) (b .sooner))
+
+  pub ways-before : (x y : S .State) (u v : List ℕ) → Least S x u → Least S y v → Sooner u v → SlotBefore S x y
+  ways-before x y u v h k d = record { way = u; way-first = least-first S x u h; later = v; later-first = least-first S y v k; sooner = d }
 
   pub before-differ : (x y : S .State) → SlotBefore S x y → ¬ (x ≡ y)
   before-differ x y b e =
       let h = least-of-first S x (b .way) (b .way-first) in
       sooner-irrefl (b .way) (before-ways x y (b .way) (b .way) b h (subst (λ z. Least S z (b .way)) e h))
 
-  -- Rows whose ways are least and in order
-
-  module _ (rows : List (Row (S .State))) (least : (r : Row (S .State)) → r ∈ rows → Least S (r .state) (r .way)) where
-    way-of : (x : S .State) → x ∈ states rows → (w : List ℕ) × Least S x w
-    way-of x h = let r = in-map (λ z. z .state) rows x h in (r .0 .way, subst (λ z. Least S z (r .0 .way)) (r .2) (least (r .0) (r .1)))
-
-    has-state : (x : S .State) → Has rows x → x ∈ states rows
-    has-state x h = subst (λ z. z ∈ states rows) (h .2) (map-in (λ z. z .state) rows (h .0) (h .1))
+  -- Rows whose ways are least and in order.
 
   ordered-states :
       (rows : List (Row (S .State))) → ((r : Row (S .State)) → r ∈ rows → Least S (r .state) (r .way)) →
       Pairwise RowSooner rows → Pairwise (SlotBefore S) (states rows)
   ordered-states [] least p = tt
   ordered-states (r ∷ rows) least p = (
-    all-of (SlotBefore S (r .state)) (states rows) (λ x h. before x (in-map (λ z. z .state) rows x h)),
+    all-of (SlotBefore S (r .state)) (states rows) (λ x h. before x (in-map (λ r. r .state) rows x h)),
     ordered-states rows (λ q h. least q (inr h)) (p .1),
   )
     where
       before : (x : S .State) → (q : Row (S .State)) × (q ∈ rows) × (q .state ≡ x) → SlotBefore S (r .state) x
       before x q =
           subst (λ z. SlotBefore S (r .state) z) (q .2)
-          (record {
-            way = r .way;
-            way-first = least-first S (r .state) (r .way) (least r (inl refl));
-            later = q .0 .way;
-            later-first = least-first S (q .0 .state) (q .0 .way) (least (q .0) (inr (q .1)));
-            sooner = all-at (RowSooner r) rows (p .0) (q .0) (q .1);
-          })
+          (ways-before (r .state) (q .0 .state) (r .way) (q .0 .way) (least r (inl refl)) (least (q .0) (inr (q .1)))
+          (all-at (RowSooner r) rows (p .0) (q .0) (q .1)))
 
   pub distinct-states : (l : List (S .State)) → Pairwise (SlotBefore S) l → Distinct l
   distinct-states l p = pairwise-imp (SlotBefore S) (λ x y. ¬ (x ≡ y)) before-differ l p
@@ -80,8 +75,8 @@ module _ (S : System) where
   linked-rows rows least k =
       record {
         number = length-map rows (λ r. r .from) ∙ sym (length-map rows (λ r. r .state));
-        zeroth = λ l e. let r = at-map (λ z. z .from) rows 0 l e in sym (r .2) ∙ k .zeroth (r .0) (r .1);
-        other = λ i x l n e d. other i x l n (at-map (λ z. z .state) rows i x e) (at-map (λ z. z .from) rows i l d);
+        zeroth = λ l e. let r = at-map (λ r. r .from) rows 0 l e in sym (r .2) ∙ k .zeroth (r .0) (r .1);
+        other = λ i x l n e d. other i x l n (at-map (λ r. r .state) rows i x e) (at-map (λ r. r .from) rows i l d);
       }
     where
       other :
@@ -97,12 +92,12 @@ module _ (S : System) where
           record {
             before = b .parent .way;
             step = b .step;
-            first = least-first S x (b .parent .way ++ (b .step ∷ [])) (subst (λ z. Least S x z) (b .way) (subst (λ z. Least S z (r .0 .way)) (r .2) h));
+            first = least-first S x (b .parent .way ++ (b .step ∷ [])) (subst (λ w. Least S x w) (b .way) (subst (λ z. Least S z (r .0 .way)) (r .2) h));
             parent = b .parent .state;
             parent-leads = m .leads;
             slot = b .slot;
-            parent-at = map-at (λ z. z .state) rows (b .slot) (b .parent) (b .parent-at);
-            is = sym (q .2) ∙ ap (λ z. z .from) d ∙ b .from;
+            parent-at = map-at (λ r. r .state) rows (b .slot) (b .parent) (b .parent-at);
+            is = sym (q .2) ∙ ap (λ r. r .from) d ∙ b .from;
           }
 
   -- the first goal among rows
@@ -121,10 +116,10 @@ module _ (S : System) where
           (r ∈ (a ∷ rows)) × T (S .goal (r .state)) × ((q : Row (S .State)) → q ∈ (a ∷ rows) → T (S .goal (q .state)) → ¬ (RowSooner q r))
       which true d h again =
           let f : a ≡ r = cc in
-          (inl (sym f), subst (λ z. T (S .goal (z .state))) f (subst T (sym d) tt), λ q m g. subst (λ z. ¬ (RowSooner q z)) f (none-before q m))
+          (inl (sym f), subst (λ r. T (S .goal (r .state))) f (subst T (sym d) tt), λ q m g. subst (λ r. ¬ (RowSooner q r)) f (none-before q m))
         where
           none-before : (q : Row (S .State)) → q ∈ (a ∷ rows) → ¬ (RowSooner q a)
-          none-before q (inl e) k = sooner-irrefl (a .way) (subst (λ z. RowSooner z a) e k)
+          none-before q (inl e) k = sooner-irrefl (a .way) (subst (λ r. RowSooner r a) e k)
           none-before q (inr m) k =
               sooner-irrefl (a .way) (sooner-trans (a .way) (q .way) (a .way) (all-at (RowSooner a) rows (p .0) q m) k)
       which false d h again =
@@ -133,7 +128,7 @@ module _ (S : System) where
           none-before :
               (q : Row (S .State)) → q ∈ (a ∷ rows) → T (S .goal (q .state)) →
               ((q : Row (S .State)) → q ∈ rows → T (S .goal (q .state)) → ¬ (RowSooner q r)) → ¬ (RowSooner q r)
-          none-before q (inl e) g h = absurd (subst T d (subst (λ z. T (S .goal (z .state))) e g))
+          none-before q (inl e) g h = absurd (subst T d (subst (λ r. T (S .goal (r .state))) e g))
           none-before q (inr m) g h = h q m g
 
   pub goal-row-none :
@@ -147,25 +142,18 @@ module _ (S : System) where
           _≡_ {A = Option (Row (S .State))} (elim b as (λ _. Option (Row (S .State))) [ true ↦ some a | false ↦ goal-row S rows ]) none →
           q ∈ (a ∷ rows) → (goal-row S rows ≡ none → (q : Row (S .State)) → q ∈ rows → ¬ (T (S .goal (q .state)))) → ⊥
       which true d k m again = none-is-not-some (sym k)
-      which false d k (inl f) again = subst T d (subst (λ z. T (S .goal (z .state))) f g)
+      which false d k (inl f) again = subst T d (subst (λ r. T (S .goal (r .state))) f g)
       which false d k (inr m) again = again k q m g
 
   -- the rows of a level are the states at its distance or less
 
   module _ (d : ℕ) (old new : List (Row (S .State))) (v : Level S d old new) where
-    within : (r : Row (S .State)) → r ∈ (old ++ new) → length (r .way) ≤ d
-    within r h = which (in-either r old new h)
-      where
-        which : (r ∈ old) ⊎ (r ∈ new) → length (r .way) ≤ d
-        which (inl m) = omega (arith, v .nearer r m)
-        which (inr m) = omega (arith, v .level r m)
-
     row-near : (r : Row (S .State)) (x : S .State) → r ∈ (old ++ new) → r .state ≡ x → AtMost S d x
     row-near r x h e =
         record {
           far = length (r .way);
           distance = subst (λ z. Distance S z (length (r .way))) e (least-first S (r .state) (r .way) (v .least r h) .shortest);
-          near = within r h;
+          near = rows-within S d old new v r h;
         }
 
     near-has : (x : S .State) → AtMost S d x → Has (old ++ new) x
@@ -178,8 +166,8 @@ module _ (S : System) where
           ordered = ordered-states (old ++ new) (v .least) (v .ordered);
           exactly =
               λ x. (
-                λ h. (let r = in-map (λ z. z .state) (old ++ new) x h in row-near (r .0) x (r .1) (r .2)),
-                λ h. has-state (old ++ new) (v .least) x (near-has x h),
+                λ h. (let r = in-map (λ r. r .state) (old ++ new) x h in row-near (r .0) x (r .1) (r .2)),
+                λ h. has-state (old ++ new) x (near-has x h),
               );
         }
 
@@ -192,10 +180,6 @@ module _ (S : System) where
           number = length-map (old ++ new) (λ r. r .state);
         }
 
-  -- R(d), for every d
-  pub counted-at : (d : ℕ) → (n : ℕ) × Counts (AtMost S d) n
-  counted-at d = let v = level-at S d in (length (v .0 ++ v .1), counts-near d (v .0) (v .1) (v .2))
-
   -- The three ways to end.
 
   module _ (N d : ℕ) (old new : List (Row (S .State))) (v : Level S d old new)
@@ -207,6 +191,18 @@ module _ (S : System) where
         which : (r ∈ old) ⊎ (r ∈ new) → r ∈ new
         which (inl m) = absurd (no-nearer r m g)
         which (inr m) = m
+
+    no-goal-nearer : (x : S .State) (k : ℕ) → T (S .goal x) → Distance S x k → d ≤ k
+    no-goal-nearer x k g a = which (decLe d k)
+      where
+        which : Dec (d ≤ k) → d ≤ k
+        which (yes n) = n
+        which (no n) =
+            let q = v .complete (a .way) x (a .leads) (omega (arith, a .steps)) in
+            let nearest = least-first S (q .0 .state) (q .0 .way) (v .least (q .0) (q .1)) .shortest in
+            let no-farther = nearest .least (a .way) (subst (λ z. LeadsTo S (a .way) z) (sym (q .2)) (a .leads)) in
+            let there = v .level (q .0) (goal-in-level (q .0) (q .1) (subst (λ z. T (S .goal z)) (sym (q .2)) g)) in
+            absurd (omega (arith, a .steps))
 
     pub ends-reachable :
         (r : Row (S .State)) → length (old ++ new) ≤ N → goal-row S new ≡ some r →
@@ -222,7 +218,7 @@ module _ (S : System) where
                 goal = r .state;
                 holds = f .1;
                 distance = subst (λ k. Distance S (r .state) k) (v .level r (f .0)) (least-first S (r .state) (r .way) h .shortest);
-                least = λ x k g a. no-less x k g a (decLe d k);
+                least = no-goal-nearer;
               };
           counted = counts-near d old new v;
           fits = fits;
@@ -235,15 +231,6 @@ module _ (S : System) where
           linked = linked-rows (old ++ new) (v .least) (v .linked);
         }
       where
-        no-less : (x : S .State) (k : ℕ) → T (S .goal x) → Distance S x k → Dec (d ≤ k) → d ≤ k
-        no-less x k g a (yes n) = n
-        no-less x k g a (no n) =
-            let q = v .complete (a .way) x (a .leads) (omega (arith, a .steps)) in
-            let nearest = least-first S (q .0 .state) (q .0 .way) (v .least (q .0) (q .1)) .shortest in
-            let no-nearer = nearest .least (a .way) (subst (λ z. LeadsTo S (a .way) z) (sym (q .2)) (a .leads)) in
-            let there = v .level (q .0) (goal-in-level (q .0) (q .1) (subst (λ z. T (S .goal z)) (sym (q .2)) g)) in
-            absurd (omega (arith, a .steps))
-
         none-earlier :
             (w : List ℕ) → r ∈ new → GoalSchedule S d w → ((q : Row (S .State)) → q ∈ new → T (S .goal (q .state)) → ¬ (RowSooner q r)) → ¬ (Sooner w (r .way))
         none-earlier w m a none-before k =
@@ -256,7 +243,7 @@ module _ (S : System) where
                 (q : Row (S .State)) → Least S (q .state) (q .way) → LeadsTo S w (q .state) → q ∈ new → T (S .goal (q .state)) →
                 Sooner (q .way) w ⊎ ((q .way ≡ w) ⊎ Sooner w (q .way)) → ⊥
             which q h l m g (inl d) = none-before q m g (sooner-trans (q .way) w (r .way) d k)
-            which q h l m g (inr (inl e)) = none-before q m g (subst (λ z. Sooner z (r .way)) (sym e) k)
+            which q h l m g (inr (inl e)) = none-before q m g (subst (λ w. Sooner w (r .way)) (sym e) k)
             which q h l m g (inr (inr d)) = h .none-sooner w l d
 
     -- a level without goals
@@ -278,7 +265,7 @@ module _ (S : System) where
                 ((w : List ℕ) (x : S .State) → LeadsTo S w x → length w ≤ k → Has (old ++ new) x) → Has (old ++ new) x
             which (inl e) again = v .complete w x h (omega (arith, ap length e))
             which (inr f) again =
-                let r = run-snoc S (f .0) (f .1) (S .start) x (subst (λ z. LeadsTo S z x) (f .2) h) in
+                let r = run-snoc S (f .0) (f .1) (S .start) x (subst (λ w. LeadsTo S w x) (f .2) h) in
                 let q = again (f .0) (r .0) (r .1) (omega (arith, ap length (f .2), length-snoc (f .0) (f .1))) in
                 v .complete (q .0 .way ++ (f .1 ∷ [])) x
                 (snoc-run S (q .0 .way) (f .1) (S .start) x (q .0 .state) (v .least (q .0) (q .1) .leads) (subst (λ z. S .next (f .1) z ≡ some x) (sym (q .2)) (r .2)))
@@ -301,11 +288,8 @@ module _ (S : System) where
               linked = linked-rows (old ++ new) (v .least) (v .linked);
             }
           where
-            reached-of : (x : S .State) → AtMost S d x → Reached S x
-            reached-of x h = record { way = h .distance .way; leads = h .distance .leads }
-
             exactly : (x : S .State) → (x ∈ states (old ++ new)) ↔ Reached S x
-            exactly x = (λ h. reached-of x (holds-near d old new v .exactly x .0 h), λ h. has-state (old ++ new) (v .least) x (reached-has x h))
+            exactly x = (λ h. (let a = holds-near d old new v .exactly x .0 h in distance-reached S x (a .far) (a .distance)), λ h. has-state (old ++ new) x (reached-has x h))
 
   -- the rows of a level that did not fit: `first` are those that did
   module _ (N d : ℕ) (old new first left : List (Row (S .State))) (v : Level S d old new)
@@ -340,37 +324,29 @@ module _ (S : System) where
         other : (i : ℕ) (r : Row (S .State)) → 0 < i → getElem? first i ≡ some r → Behind first i r
         other i r n e =
             let b = v .linked .other i r n (there i r e) in
-            record {
-              slot = b .slot;
-              earlier = b .earlier;
-              parent = b .parent;
-              parent-at =
-                  here (b .slot) i (b .parent) (b .earlier) (at-below first i r e)
-                  (at-split first left (b .slot) (b .parent) (subst (λ l. getElem? l (b .slot) ≡ some (b .parent)) split (b .parent-at)));
-              step = b .step;
-              way = b .way;
-              from = b .from;
-            }
+            behind-among (old ++ new) first i r b
+            (here (b .slot) i (b .parent) (b .earlier) (at-below first i r e)
+            (at-split first left (b .slot) (b .parent) (subst (λ l. getElem? l (b .slot) ≡ some (b .parent)) split (b .parent-at))))
 
     -- what comes before one of the first rows in the order of slots is one of them
     first-closed : (x y : S .State) → y ∈ states first → SlotBefore S x y → x ∈ states first
     first-closed x y h b =
-        let r = in-map (λ z. z .state) first y h in
+        let r = in-map (λ r. r .state) first y h in
         let w = first-least (r .0) (r .1) in
-        let s = before-ways x y (b .way) (r .0 .way) b (least-of-first S x (b .way) (b .way-first)) (subst (λ z. Least S z (r .0 .way)) (r .2) w) in
-        let q = v .complete (b .way) x (b .way-first .first .has) (shorter (b .way) (r .0) (r .1) s) in
+        let sooner = before-ways x y (b .way) (r .0 .way) b (least-of-first S x (b .way) (b .way-first)) (subst (λ z. Least S z (r .0 .way)) (r .2) w) in
+        let q = v .complete (b .way) x (b .way-first .first .has) (shorter (b .way) (r .0) (r .1) sooner) in
         let e = least-unique S x (b .way) (q .0 .way) (least-of-first S x (b .way) (b .way-first)) (subst (λ z. Least S z (q .0 .way)) (q .2) (v .least (q .0) (q .1))) in
-        has-state first first-least x
-        (q .0, which (q .0) (r .0) (r .1) (subst (λ z. Sooner z (r .0 .way)) e s) (in-either (q .0) first left (subst (λ l. q .0 ∈ l) split (q .1))), q .2)
+        has-state first x
+        (q .0, which (q .0) (r .0) (r .1) (subst (λ w. Sooner w (r .0 .way)) e sooner) (in-either (q .0) first left (subst (λ l. q .0 ∈ l) split (q .1))), q .2)
       where
         shorter : (u : List ℕ) (r : Row (S .State)) → r ∈ first → Sooner u (r .way) → length u ≤ d
-        shorter u r m (inl k) = omega (arith, within d old new v r (first-in r m))
-        shorter u r m (inr k) = omega (arith, k .0, within d old new v r (first-in r m))
+        shorter u r m (inl k) = omega (arith, rows-within S d old new v r (first-in r m))
+        shorter u r m (inr k) = omega (arith, k .0, rows-within S d old new v r (first-in r m))
 
         which : (q r : Row (S .State)) → r ∈ first → RowSooner q r → (q ∈ first) ⊎ (q ∈ left) → q ∈ first
-        which q r m s (inl k) = k
-        which q r m s (inr k) =
-            absurd (sooner-irrefl (q .way) (sooner-trans (q .way) (r .way) (q .way) s (pairwise-across RowSooner first left split-ordered r q m k)))
+        which q r m h (inl k) = k
+        which q r m h (inr k) =
+            absurd (sooner-irrefl (q .way) (sooner-trans (q .way) (r .way) (q .way) h (pairwise-across RowSooner first left split-ordered r q m k)))
 
     -- more states are at d or nearer than there are slots
     too-many : (n : ℕ) (P : S .State → Type 0) → ((x : S .State) → AtMost S d x → P x) → Counts P n → ¬ (n ≤ N)
@@ -385,33 +361,27 @@ module _ (S : System) where
         record {
           gives = refl;
           not-reachable = λ e m g c. too-many m (AtMost S e) (λ x h. farther e x g h) c;
-          not-unreachable = λ m g c. too-many m (Reached S) (λ x h. record { way = h .distance .way; leads = h .distance .leads }) c;
+          not-unreachable = λ m g c. too-many m (Reached S) (λ x h. distance-reached S x (h .far) (h .distance)) c;
           none-written = refl;
           held =
               record {
                 number = length-map first (λ r. r .state) ∙ number;
                 ordered = ordered-states first first-least (pairwise-left RowSooner first left split-ordered);
                 reached =
-                    λ x h. (let r = in-map (λ z. z .state) first x h in
+                    λ x h. (let r = in-map (λ r. r .state) first x h in
                     record { way = r .0 .way; leads = subst (λ z. LeadsTo S (r .0 .way) z) (r .2) (first-least (r .0) (r .1) .leads) });
                 closed = first-closed;
               };
           linked = linked-rows first first-least first-linked;
         }
       where
-        -- no goal is nearer than d
         farther : (e : ℕ) (x : S .State) → LeastGoal S e → AtMost S d x → AtMost S e x
-        farther e x g h = which (decLe d e)
-          where
-            which : Dec (d ≤ e) → AtMost S e x
-            which (yes n) = record { far = h .far; distance = h .distance; near = omega (arith, h .near) }
-            which (no n) =
-                let a = g .distance in
-                let q = v .complete (a .way) (g .goal) (a .leads) (omega (arith, a .steps)) in
-                let nearest = least-first S (q .0 .state) (q .0 .way) (v .least (q .0) (q .1)) .shortest in
-                let no-farther = nearest .least (a .way) (subst (λ z. LeadsTo S (a .way) z) (sym (q .2)) (a .leads)) in
-                let there = v .level (q .0) (goal-in-level N d old new v no-nearer (q .0) (q .1) (subst (λ z. T (S .goal z)) (sym (q .2)) (g .holds))) in
-                absurd (omega (arith, a .steps))
+        farther e x g h =
+            record {
+              far = h .far;
+              distance = h .distance;
+              near = omega (arith, h .near, no-goal-nearer N d old new v no-nearer (g .goal) e (g .holds) (g .distance));
+            }
 
   -- what holds in each case holds of what the cases make
   module _ (N : ℕ) (P : Outcome (S .State) → Type 0) (otherwise : Unit {0} → Outcome (S .State)) (rows : List (Row (S .State))) where
@@ -435,48 +405,53 @@ module _ (S : System) where
     room-cases true f g = f refl
     room-cases false f g = g refl
 
-  -- The search.
+-- The search.
 
-  module _ (N : ℕ) where
-    levels-mean :
-        (fuel d : ℕ) (old new : List (Row (S .State))) → Level S d old new →
-        ((r : Row (S .State)) → r ∈ old → ¬ (T (S .goal (r .state)))) → length (old ++ new) ≤ N → N < fuel + length old →
-        Means S N (levels S N fuel d (length old) (old ++ new))
-    unfolding levels outcome
-    levels-mean zero d old new v no-nearer fits enough = absurd (omega (arith, length-append old new))
-    levels-mean (suc fuel) d old new v no-nearer fits enough =
-        let n = level-next S d old new v in
-        rw (drop-append-seam old new)
-        (goal-cases N (Means S N) _ (old ++ new) d (goal-row S new)
-        (λ r e. ends-reachable N d old new v no-nearer r fits e)
-        (λ e.
-        let no-goal = goal-row-none new e in
-        rest-cases N (Means S N) _ (old ++ new) (leb (length (old ++ new)) (length old))
-        (λ b. ends-unreachable N d old new v no-nearer no-goal (ended b) fits)
-        (λ b.
-        rw (put-all-kept S N (old ++ new) (offers S (length old) new) fits, n .1)
-        (room-cases N (Means S N) _ (take N ((old ++ new) ++ n .0)) (ltb N (length ((old ++ new) ++ n .0)))
-        (λ c.
-        let more = ltb-true N (length ((old ++ new) ++ n .0)) c in
-        ends-unknown N (suc d) (old ++ new) (n .0) (take N ((old ++ new) ++ n .0)) (drop N ((old ++ new) ++ n .0)) (n .2)
-        (no-goal-row N d old new v no-nearer no-goal)
-        (sym (take-append-drop N ((old ++ new) ++ n .0)))
-        (length-take-le N ((old ++ new) ++ n .0) (omega arith))
-        more)
-        (λ c.
-        let all = ltb-false N (length ((old ++ new) ++ n .0)) c in
-        rw (take-all N ((old ++ new) ++ n .0) all)
-        (levels-mean fuel (suc d) (old ++ new) (n .0) (n .2) (no-goal-row N d old new v no-nearer no-goal) all
-        (omega (arith, length-append old new, leb-false (length (old ++ new)) (length old) b))))))))
-      where
-        ended : leb (length (old ++ new)) (length old) ≡ true → new ≡ []
-        ended b = which new (omega (arith, length-append old new, leb-true (length (old ++ new)) (length old) b))
-          where
-            which : (l : List (Row (S .State))) → length l ≤ 0 → l ≡ []
-            which [] h = refl
-            which (r ∷ l) h = absurd (omega arith)
+module _ (E : Searchable) where
+  -- R(d), for every d
+  pub counted-at : (d : ℕ) → (n : ℕ) × Counts (AtMost (E .system) d) n
+  counted-at d = let v = level-at E d in (length (v .0 ++ v .1), counts-near (E .system) d (v .0) (v .1) (v .2))
 
-    -- every system and every N from 1 has an outcome
-    pub find-means : 1 ≤ N → Means S N (find S N)
-    unfolding find
-    find-means h = levels-mean (suc N) 0 [] (start-row S ∷ []) (level-zero S) (λ r m. absurd m) h (omega arith)
+module _ (E : Searchable) (N : ℕ) where
+  levels-mean :
+      (fuel d : ℕ) (old new : List (Row (E .system .State))) → Level (E .system) d old new →
+      ((r : Row (E .system .State)) → r ∈ old → ¬ (T (E .system .goal (r .state)))) → length (old ++ new) ≤ N → N < fuel + length old →
+      Means (E .system) N (levels E N fuel d (length old) (old ++ new))
+  unfolding levels outcome
+  levels-mean zero d old new v no-nearer fits enough = absurd (omega (arith, length-append old new))
+  levels-mean (suc fuel) d old new v no-nearer fits enough =
+      let n = level-next E d old new v in
+      rw (drop-append-seam old new)
+      (goal-cases (E .system) N (Means (E .system) N) _ (old ++ new) d (goal-row (E .system) new)
+      (λ r e. ends-reachable (E .system) N d old new v no-nearer r fits e)
+      (λ e.
+      let no-goal = goal-row-none (E .system) new e in
+      rest-cases (E .system) N (Means (E .system) N) _ (old ++ new) (leb (length (old ++ new)) (length old))
+      (λ b. ends-unreachable (E .system) N d old new v no-nearer no-goal (ended b) fits)
+      (λ b.
+      rw (put-all-kept E N (old ++ new) (offers E (length old) new) fits, n .1)
+      (room-cases (E .system) N (Means (E .system) N) _ (take N ((old ++ new) ++ n .0)) (ltb N (length ((old ++ new) ++ n .0)))
+      (λ c.
+      let more = ltb-true N (length ((old ++ new) ++ n .0)) c in
+      ends-unknown (E .system) N (suc d) (old ++ new) (n .0) (take N ((old ++ new) ++ n .0)) (drop N ((old ++ new) ++ n .0)) (n .2)
+      (no-goal-row (E .system) N d old new v no-nearer no-goal)
+      (sym (take-append-drop N ((old ++ new) ++ n .0)))
+      (length-take-le N ((old ++ new) ++ n .0) (omega arith))
+      more)
+      (λ c.
+      let all = ltb-false N (length ((old ++ new) ++ n .0)) c in
+      rw (take-all N ((old ++ new) ++ n .0) all)
+      (levels-mean fuel (suc d) (old ++ new) (n .0) (n .2) (no-goal-row (E .system) N d old new v no-nearer no-goal) all
+      (omega (arith, length-append old new, leb-false (length (old ++ new)) (length old) b))))))))
+    where
+      ended : leb (length (old ++ new)) (length old) ≡ true → new ≡ []
+      ended b = which new (omega (arith, length-append old new, leb-true (length (old ++ new)) (length old) b))
+        where
+          which : (l : List (Row (E .system .State))) → length l ≤ 0 → l ≡ []
+          which [] h = refl
+          which (r ∷ l) h = absurd (omega arith)
+
+  -- every system and every N from 1 has an outcome
+  pub find-means : 1 ≤ N → Means (E .system) N (find E N)
+  unfolding find
+  find-means h = levels-mean (suc N) 0 [] (start-row (E .system) ∷ []) (level-zero (E .system)) (λ r m. absurd m) h (omega arith)

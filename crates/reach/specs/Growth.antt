@@ -3,22 +3,15 @@ use mathlib.Core.Path.{_≡_, refl, sym, _∙_, ap, subst}
 use mathlib.Core.Logic.{_⊎_, inl, inr}
 use mathlib.Core.Bool.{Bool, true, false, _||_}
 use mathlib.Core.List.{List, [], _∷_, _++_, append-assoc, append-nil}
-use mathlib.Core.Option.{Option, none, some}
-use Prim.Native.Nat.{ℕ, zero, suc, _+_, _≤_, _<_}
-use native.Mathlib.Nat.{add-zero, add-suc, suc-add}
-use native.Mathlib.Omega.{arith}
-use native.Mathlib.Decide.{decLt}
 use lib.Dec.{T}
-use lib.ListN.{length, getElem?}
 use lib.Seq.{append-snoc}
-use Rattle.reach.specs.Lists.{_∈_, All, Pairwise}
-use Rattle.reach.specs.ListLaws.{in-left, in-right, in-either, in-last, all-at, all-of, pairwise-append, pairwise-across, at-in, in-at}
+use Rattle.reach.specs.Lists.{_∈_, Pairwise}
+use Rattle.reach.specs.ListLaws.{in-left, in-right, in-either, in-last, pairwise-append, pairwise-across}
 use Rattle.reach.specs.System.{System}
 use Rattle.reach.specs.Order.{Sooner}
-use Rattle.reach.specs.OrderLaws.{sooner-irrefl, sooner-trans, sooner-snoc, sooner-last}
-use Rattle.reach.specs.RunLaws.{none-is-not-some, step-below}
-use Rattle.reach.specs.Meaning.{link}
-use Rattle.reach.specs.Rows.{Row, offer, offers-below, offers, known}
+use Rattle.reach.specs.OrderLaws.{sooner-irrefl, sooner-trans}
+use Rattle.reach.specs.Searchable.{Searchable}
+use Rattle.reach.specs.Rows.{Row, known}
 
 abbrev pub RowSooner : {X : Type 0} → Row X → Row X → Type 0
 RowSooner r q = Sooner (r .way) (q .way)
@@ -39,33 +32,10 @@ or-left true b h = tt
 or-left false b h = absurd h
 
 module _ (S : System) where
-  pub known-has : (x : S .State) (rows : List (Row (S .State))) → T (known S x rows) → Has rows x
-  unfolding known
-  known-has x [] h = absurd h
-  known-has x (r ∷ rows) h = first (S .same x (r .state)) refl h (λ k. known-has x rows k)
-    where
-      first : (b : Bool) → S .same x (r .state) ≡ b → T (b || known S x rows) → (T (known S x rows) → Has rows x) → Has (r ∷ rows) x
-      first true e k again = (r, inl refl, sym (S .same-equal x (r .state) (subst T (sym e) tt)))
-      first false e k again = let h = again k in (h .0, inr (h .1), h .2)
-
-  pub has-known : (x : S .State) (rows : List (Row (S .State))) → (r : Row (S .State)) → r ∈ rows → r .state ≡ x → T (known S x rows)
-  unfolding known
-  has-known x [] r h e = absurd h
-  has-known x (q ∷ rows) r (inl d) e =
-      or-left (S .same x (q .state)) (known S x rows) (subst (λ y. T (S .same x y)) (sym e ∙ ap (λ z. z .state) d) (S .same-refl x))
-  has-known x (q ∷ rows) r (inr h) e = or-right (S .same x (q .state)) (known S x rows) (has-known x rows r h e)
-
   -- one row more, unless its state is known
   unfoldable pub add-unless : Row (S .State) → List (Row (S .State)) → Bool → List (Row (S .State))
   add-unless c rows true = rows
   add-unless c rows false = rows ++ (c ∷ [])
-
-  unfoldable pub add : Row (S .State) → List (Row (S .State)) → List (Row (S .State))
-  add c rows = add-unless c rows (known S (c .state) rows)
-
-  unfoldable pub add-all : List (Row (S .State)) → List (Row (S .State)) → List (Row (S .State))
-  add-all rows [] = rows
-  add-all rows (c ∷ cs) = add-all (add c rows) cs
 
   -- `fresh` is what adding the rows `done` to the rows `old` has given: of each state that `old` lacks, the soonest row of `done`
   pub record Grown (old done fresh : List (Row (S .State))) : Type 0 where
@@ -93,15 +63,15 @@ module _ (S : System) where
         }
       where
         soonest : (r d : Row (S .State)) → r ∈ fresh → d .state ≡ r .state → (d ∈ done) ⊎ (d ∈ (c ∷ [])) → ¬ (RowSooner d r)
-        soonest r d k e (inl m) s = g .soonest r d k m e s
-        soonest r d k e (inr (inl p)) s =
+        soonest r d k e (inl m) sooner = g .soonest r d k m e sooner
+        soonest r d k e (inr (inl p)) sooner =
             sooner-irrefl (r .way)
-            (sooner-trans (r .way) (d .way) (r .way) (subst (λ z. RowSooner r z) (sym p) (after r (g .from r k))) s)
-        soonest r d k e (inr (inr m)) s = absurd m
+            (sooner-trans (r .way) (d .way) (r .way) (subst (λ q. RowSooner r q) (sym p) (after r (g .from r k))) sooner)
+        soonest r d k e (inr (inr m)) sooner = absurd m
 
         covers : (d : Row (S .State)) → (d ∈ done) ⊎ (d ∈ (c ∷ [])) → Has (old ++ fresh) (d .state)
         covers d (inl m) = g .covers d m
-        covers d (inr (inl p)) = (h .0, h .1, h .2 ∙ ap (λ z. z .state) (sym p))
+        covers d (inr (inl p)) = (h .0, h .1, h .2 ∙ ap (λ r. r .state) (sym p))
         covers d (inr (inr m)) = absurd m
 
     grown-new : ¬ (Has (old ++ fresh) (c .state)) → Grown old (done ++ (c ∷ [])) (fresh ++ (c ∷ []))
@@ -122,7 +92,7 @@ module _ (S : System) where
 
         new : (r : Row (S .State)) → (r ∈ fresh) ⊎ (r ∈ (c ∷ [])) → ¬ (Has old (r .state))
         new r (inl k) h = g .new r k h
-        new r (inr (inl p)) h = n (has-left old fresh (c .state) (h .0, h .1, h .2 ∙ ap (λ z. z .state) p))
+        new r (inr (inl p)) h = n (has-left old fresh (c .state) (h .0, h .1, h .2 ∙ ap (λ r. r .state) p))
         new r (inr (inr k)) h = absurd k
 
         covered : (d : Row (S .State)) → d ∈ done → ¬ (d .state ≡ c .state)
@@ -130,55 +100,80 @@ module _ (S : System) where
 
         soonest :
             (r d : Row (S .State)) → d .state ≡ r .state → (r ∈ fresh) ⊎ (r ∈ (c ∷ [])) → (d ∈ done) ⊎ (d ∈ (c ∷ [])) → ¬ (RowSooner d r)
-        soonest r d e (inl k) (inl m) s = g .soonest r d k m e s
-        soonest r d e (inl k) (inr (inl q)) s = covered r (g .from r k) (sym e ∙ ap (λ z. z .state) q)
-        soonest r d e (inl k) (inr (inr m)) s = absurd m
-        soonest r d e (inr (inl p)) (inl m) s = covered d m (e ∙ ap (λ z. z .state) p)
-        soonest r d e (inr (inl p)) (inr (inl q)) s =
-            sooner-irrefl (c .way) (subst (λ z. RowSooner z c) q (subst (λ z. RowSooner d z) p s))
-        soonest r d e (inr (inl p)) (inr (inr m)) s = absurd m
-        soonest r d e (inr (inr k)) m s = absurd k
+        soonest r d e (inl k) (inl m) sooner = g .soonest r d k m e sooner
+        soonest r d e (inl k) (inr (inl q)) sooner = covered r (g .from r k) (sym e ∙ ap (λ r. r .state) q)
+        soonest r d e (inl k) (inr (inr m)) sooner = absurd m
+        soonest r d e (inr (inl p)) (inl m) sooner = covered d m (e ∙ ap (λ r. r .state) p)
+        soonest r d e (inr (inl p)) (inr (inl q)) sooner =
+            sooner-irrefl (c .way) (subst (λ r. RowSooner r c) q (subst (λ r. RowSooner d r) p sooner))
+        soonest r d e (inr (inl p)) (inr (inr m)) sooner = absurd m
+        soonest r d e (inr (inr k)) m sooner = absurd k
 
         covers : (d : Row (S .State)) → (d ∈ done) ⊎ (d ∈ (c ∷ [])) → Has (old ++ (fresh ++ (c ∷ []))) (d .state)
         covers d (inl m) =
             let h = g .covers d m in
             (h .0, subst (λ l. h .0 ∈ l) (append-assoc old fresh (c ∷ [])) (in-left (h .0) (old ++ fresh) (c ∷ []) (h .1)), h .2)
-        covers d (inr (inl p)) = (c, in-right c old (fresh ++ (c ∷ [])) (in-last c fresh), ap (λ z. z .state) (sym p))
+        covers d (inr (inl p)) = (c, in-right c old (fresh ++ (c ∷ [])) (in-last c fresh), ap (λ r. r .state) (sym p))
         covers d (inr (inr m)) = absurd m
 
         last : (r d : Row (S .State)) → r ∈ fresh → d ∈ (c ∷ []) → RowSooner r d
-        last r d k (inl p) = subst (λ z. RowSooner r z) (sym p) (after r (g .from r k))
+        last r d k (inl p) = subst (λ q. RowSooner r q) (sym p) (after r (g .from r k))
         last r d k (inr m) = absurd m
 
   -- what adding gives, as a list behind the old rows
   abbrev pub Grows : (old done rows : List (Row (S .State))) → Type 0
   Grows old done rows = (fresh : List (Row (S .State))) × (rows ≡ old ++ fresh) × Grown old done fresh
 
+module _ (E : Searchable) where
+  -- a state is known exactly when some row has it
+  pub known-has : (x : E .system .State) (rows : List (Row (E .system .State))) → T (known E x rows) → Has rows x
+  unfolding known
+  known-has x [] h = absurd h
+  known-has x (r ∷ rows) h = first (E .same x (r .state)) refl h (λ k. known-has x rows k)
+    where
+      first : (b : Bool) → E .same x (r .state) ≡ b → T (b || known E x rows) → (T (known E x rows) → Has rows x) → Has (r ∷ rows) x
+      first true e k again = (r, inl refl, sym (E .same-equal x (r .state) (subst T (sym e) tt)))
+      first false e k again = let h = again k in (h .0, inr (h .1), h .2)
+
+  pub has-known : (x : E .system .State) (rows : List (Row (E .system .State))) → (r : Row (E .system .State)) → r ∈ rows → r .state ≡ x → T (known E x rows)
+  unfolding known
+  has-known x [] r h e = absurd h
+  has-known x (q ∷ rows) r (inl d) e =
+      or-left (E .same x (q .state)) (known E x rows) (subst (λ y. T (E .same x y)) (sym e ∙ ap (λ r. r .state) d) (E .same-refl x))
+  has-known x (q ∷ rows) r (inr h) e = or-right (E .same x (q .state)) (known E x rows) (has-known x rows r h e)
+
+  unfoldable pub add : Row (E .system .State) → List (Row (E .system .State)) → List (Row (E .system .State))
+  add c rows = add-unless (E .system) c rows (known E (c .state) rows)
+
+  unfoldable pub add-all : List (Row (E .system .State)) → List (Row (E .system .State)) → List (Row (E .system .State))
+  add-all rows [] = rows
+  add-all rows (c ∷ cs) = add-all (add c rows) cs
+
   grows-by :
-      (old done fresh : List (Row (S .State))) (c : Row (S .State)) →
-      ((d : Row (S .State)) → d ∈ done → RowSooner d c) → Grown old done fresh → (b : Bool) → known S (c .state) (old ++ fresh) ≡ b →
-      Grows old (done ++ (c ∷ [])) (add-unless c (old ++ fresh) b)
+      (old done fresh : List (Row (E .system .State))) (c : Row (E .system .State)) →
+      ((d : Row (E .system .State)) → d ∈ done → RowSooner d c) → Grown (E .system) old done fresh → (b : Bool) → known E (c .state) (old ++ fresh) ≡ b →
+      Grows (E .system) old (done ++ (c ∷ [])) (add-unless (E .system) c (old ++ fresh) b)
   unfolding add-unless
   grows-by old done fresh c after g true e =
-      (fresh, refl, grown-known old done fresh c after g (known-has (c .state) (old ++ fresh) (subst T (sym e) tt)))
+      (fresh, refl, grown-known (E .system) old done fresh c after g (known-has (c .state) (old ++ fresh) (subst T (sym e) tt)))
   grows-by old done fresh c after g false e = (
     fresh ++ (c ∷ []),
     append-assoc old fresh (c ∷ []),
-    grown-new old done fresh c after g (λ h. subst T e (has-known (c .state) (old ++ fresh) (h .0) (h .1) (h .2))),
+    grown-new (E .system) old done fresh c after g (λ h. subst T e (has-known (c .state) (old ++ fresh) (h .0) (h .1) (h .2))),
   )
 
   grows-all :
-      (old done fresh cs : List (Row (S .State))) → Grown old done fresh → Pairwise RowSooner (done ++ cs) →
-      Grows old (done ++ cs) (add-all (old ++ fresh) cs)
+      (old done fresh cs : List (Row (E .system .State))) → Grown (E .system) old done fresh → Pairwise RowSooner (done ++ cs) →
+      Grows (E .system) old (done ++ cs) (add-all (old ++ fresh) cs)
   unfolding add-all add
   grows-all old done fresh [] g p = (fresh, refl, rw append-nil g)
   grows-all old done fresh (c ∷ cs) g p =
       let first =
       grows-by old done fresh c (λ d m. pairwise-across RowSooner done (c ∷ cs) p d c m (inl refl)) g
-      (known S (c .state) (old ++ fresh)) refl in
+      (known E (c .state) (old ++ fresh)) refl in
       let rest = grows-all old (done ++ (c ∷ [])) (first .0) cs (first .2) (rw append-snoc p) in
       (rest .0, ap (λ l. add-all l cs) (first .1) ∙ rest .1, rw append-snoc at (rest .2))
 
   -- rows in order, added to old ones
-  pub grows : (old cs : List (Row (S .State))) → Pairwise RowSooner cs → Grows old cs (add-all old cs)
-  grows old cs p = let g = grows-all old [] [] cs (nothing-grown old) p in (g .0, ap (λ l. add-all l cs) (sym (append-nil old)) ∙ g .1, g .2)
+  pub grows : (old cs : List (Row (E .system .State))) → Pairwise RowSooner cs → Grows (E .system) old cs (add-all old cs)
+  grows old cs p = let g = grows-all old [] [] cs (nothing-grown (E .system) old) p in (g .0, ap (λ l. add-all l cs) (sym (append-nil old)) ∙ g .1, g .2)

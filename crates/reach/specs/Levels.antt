@@ -2,21 +2,21 @@
 use mathlib.Core.Path.{_≡_, refl, sym, _∙_, ap, subst}
 use mathlib.Core.Logic.{_⊎_, inl, inr}
 use mathlib.Core.List.{List, [], _∷_, _++_}
-use mathlib.Core.Option.{Option, none, some}
-use Prim.Native.Nat.{ℕ, zero, suc, _+_, _-_, _≤_, _<_}
+use mathlib.Core.Option.{some}
+use Prim.Native.Nat.{ℕ, zero, suc, _+_, _≤_, _<_}
 use native.Mathlib.Omega.{arith}
-use native.Mathlib.Decide.{decLt, decLe}
 use lib.ListN.{length, length-append, getElem?}
 use Rattle.reach.specs.Lists.{_∈_, Pairwise}
 use Rattle.reach.specs.ListLaws.{in-left, in-right, in-either, pairwise-append, pairwise-right, at-in, at-left, at-right, at-below, at-split}
-use Rattle.reach.specs.System.{System, run}
-use Rattle.reach.specs.Order.{Earlier, Sooner}
+use Rattle.reach.specs.System.{System}
+use Rattle.reach.specs.Order.{Sooner}
 use Rattle.reach.specs.OrderLaws.{sooner-irrefl, sooner-total, sooner-trans, sooner-snoc, length-snoc, last-of}
-use Rattle.reach.specs.RunLaws.{run-snoc, snoc-run, Least, leads-unique}
-use Rattle.reach.specs.Meaning.{LeadsTo, Reached, link, no-link}
+use Rattle.reach.specs.RunLaws.{run-snoc, snoc-run, Least}
+use Rattle.reach.specs.Meaning.{LeadsTo, link, no-link}
+use Rattle.reach.specs.Searchable.{Searchable}
 use Rattle.reach.specs.Rows.{Row, start-row, offers}
-use Rattle.reach.specs.Growth.{RowSooner, Has, has-left, Grown, Grows, grows, add-all}
-use Rattle.reach.specs.Offers.{Offered, offers-sound, offers-complete, offers-ordered}
+use Rattle.reach.specs.Growth.{RowSooner, Has, has-left, Grown, grows, add-all}
+use Rattle.reach.specs.Offers.{offers-sound, offers-complete, offers-ordered}
 
 -- the row before the last step: it stands at an earlier slot
 pub record Behind {X : Type 0} (rows : List (Row X)) (i : ℕ) (r : Row X) : Type 0 where
@@ -27,6 +27,13 @@ pub record Behind {X : Type 0} (rows : List (Row X)) (i : ℕ) (r : Row X) : Typ
   pub step : ℕ
   pub way : r .way ≡ parent .way ++ (step ∷ [])
   pub from : r .from ≡ link slot step
+
+-- the same among other rows, where the parent stands at its slot
+pub behind-among :
+    {X : Type 0} (rows others : List (Row X)) (i : ℕ) (r : Row X) (b : Behind rows i r) → getElem? others (b .slot) ≡ some (b .parent) →
+    Behind others i r
+behind-among rows others i r b e =
+    record { slot = b .slot; earlier = b .earlier; parent = b .parent; parent-at = e; step = b .step; way = b .way; from = b .from }
 
 pub record RowsLinked {X : Type 0} (rows : List (Row X)) : Type 0 where
   pub zeroth : (r : Row X) → getElem? rows 0 ≡ some r → r .from ≡ no-link
@@ -53,7 +60,7 @@ module _ (S : System) where
         ordered = (tt, tt);
         nearer = λ r h. absurd h;
         level = λ r h. level r h;
-        linked = record { zeroth = λ r e. ap (λ z. z .from) (only r e); root = λ r e. ap (λ z. z .way) (only r e); other = λ i r n e. other i r n e };
+        linked = record { zeroth = λ r e. ap (λ r. r .from) (only r e); root = λ r e. ap (λ r. r .way) (only r e); other = λ i r n e. other i r n e };
         some-row = omega arith;
       }
     where
@@ -67,11 +74,11 @@ module _ (S : System) where
       nothing-sooner (s ∷ v) (inr h) = h .1
 
       least : (r : Row (S .State)) → r ∈ (start-row S ∷ []) → Least S (r .state) (r .way)
-      least r (inl e) = subst (λ z. Least S (z .state) (z .way)) (sym e) (record { leads = refl; none-sooner = λ v h. nothing-sooner v })
+      least r (inl e) = subst (λ r. Least S (r .state) (r .way)) (sym e) (record { leads = refl; none-sooner = λ v h. nothing-sooner v })
       least r (inr h) = absurd h
 
       level : (r : Row (S .State)) → r ∈ (start-row S ∷ []) → length (r .way) ≡ 0
-      level r (inl e) = ap (λ z. length (z .way)) e
+      level r (inl e) = ap (λ r. length (r .way)) e
       level r (inr h) = absurd h
 
       only : (r : Row (S .State)) → getElem? (start-row S ∷ []) 0 ≡ some r → r ≡ start-row S
@@ -80,6 +87,14 @@ module _ (S : System) where
       other : (i : ℕ) (r : Row (S .State)) → 0 < i → getElem? (start-row S ∷ []) i ≡ some r → Behind (start-row S ∷ []) i r
       other i r n e = absurd (let h = at-below (start-row S ∷ []) i r e in omega arith)
 
+  -- no row of a level is farther than the level
+  pub rows-within : (j : ℕ) (old new : List (Row (S .State))) → Level j old new → (r : Row (S .State)) → r ∈ (old ++ new) → length (r .way) ≤ j
+  rows-within j old new v r h = which (in-either r old new h)
+    where
+      which : (r ∈ old) ⊎ (r ∈ new) → length (r .way) ≤ j
+      which (inl m) = omega (arith, v .nearer r m)
+      which (inr m) = omega (arith, v .level r m)
+
   -- one step more of the least schedule to a state is not after the same step of any other
   least-snoc :
       (x : S .State) (w u : List ℕ) (s : ℕ) → Least S x w → LeadsTo S u x → ¬ (Sooner (u ++ (s ∷ [])) (w ++ (s ∷ [])))
@@ -87,58 +102,59 @@ module _ (S : System) where
     where
       decide : Sooner u w ⊎ ((u ≡ w) ⊎ Sooner w u) → ⊥
       decide (inl d) = h .none-sooner u l d
-      decide (inr (inl e)) = sooner-irrefl (w ++ (s ∷ [])) (subst (λ z. Sooner (z ++ (s ∷ [])) (w ++ (s ∷ []))) e k)
+      decide (inr (inl e)) = sooner-irrefl (w ++ (s ∷ [])) (subst (λ u. Sooner (u ++ (s ∷ [])) (w ++ (s ∷ []))) e k)
       decide (inr (inr d)) =
           sooner-irrefl (w ++ (s ∷ []))
           (sooner-trans (w ++ (s ∷ [])) (u ++ (s ∷ [])) (w ++ (s ∷ [])) (sooner-snoc w u s s d) k)
 
+module _ (E : Searchable) where
   -- one level more
-  module _ (j : ℕ) (old new : List (Row (S .State))) (v : Level j old new) where
+  module _ (j : ℕ) (old new : List (Row (E .system .State))) (v : Level (E .system) j old new) where
     -- the state that a row's step leads to is met within one step more, and within j if the row is nearer than j
     nearer-next :
-        (q : Row (S .State)) (s : ℕ) (y : S .State) → q ∈ (old ++ new) → length (q .way) < j → S .next s (q .state) ≡ some y → Has (old ++ new) y
+        (q : Row (E .system .State)) (s : ℕ) (y : E .system .State) → q ∈ (old ++ new) → length (q .way) < j → E .system .next s (q .state) ≡ some y → Has (old ++ new) y
     nearer-next q s y h n e =
-        v .complete (q .way ++ (s ∷ [])) y (snoc-run S (q .way) s (S .start) y (q .state) (v .least q h .leads) e)
+        v .complete (q .way ++ (s ∷ [])) y (snoc-run (E .system) (q .way) s (E .system .start) y (q .state) (v .least q h .leads) e)
         (omega (arith, length-snoc (q .way) s))
 
     -- what j + 1 steps lead to is among the rows, or is offered by way of a schedule that is not after
     met :
-        (u : List ℕ) (s : ℕ) (y : S .State) → LeadsTo S (u ++ (s ∷ [])) y → length u ≤ j →
+        (u : List ℕ) (s : ℕ) (y : E .system .State) → LeadsTo (E .system) (u ++ (s ∷ [])) y → length u ≤ j →
         Has (old ++ new) y
-        ⊎ ((c : Row (S .State)) × (c ∈ offers S (length old) new) × (c .state ≡ y) × (¬ (Sooner (u ++ (s ∷ [])) (c .way))))
+        ⊎ ((c : Row (E .system .State)) × (c ∈ offers E (length old) new) × (c .state ≡ y) × (¬ (Sooner (u ++ (s ∷ [])) (c .way))))
     met u s y h n =
-        let f = run-snoc S u s (S .start) y h in
+        let f = run-snoc (E .system) u s (E .system .start) y h in
         let r = v .complete u (f .0) (f .1) n in
-        let e : S .next s (r .0 .state) ≡ some y = subst (λ z. S .next s z ≡ some y) (sym (r .2)) (f .2) in
-        which (r .0) (v .least (r .0) (r .1)) e (subst (λ z. LeadsTo S u z) (sym (r .2)) (f .1)) (in-either (r .0) old new (r .1))
+        let e : E .system .next s (r .0 .state) ≡ some y = subst (λ z. E .system .next s z ≡ some y) (sym (r .2)) (f .2) in
+        which (r .0) (v .least (r .0) (r .1)) e (subst (λ z. LeadsTo (E .system) u z) (sym (r .2)) (f .1)) (in-either (r .0) old new (r .1))
       where
         which :
-            (q : Row (S .State)) → Least S (q .state) (q .way) → S .next s (q .state) ≡ some y → LeadsTo S u (q .state) → (q ∈ old) ⊎ (q ∈ new) →
+            (q : Row (E .system .State)) → Least (E .system) (q .state) (q .way) → E .system .next s (q .state) ≡ some y → LeadsTo (E .system) u (q .state) → (q ∈ old) ⊎ (q ∈ new) →
             Has (old ++ new) y
-            ⊎ ((c : Row (S .State)) × (c ∈ offers S (length old) new) × (c .state ≡ y) × (¬ (Sooner (u ++ (s ∷ [])) (c .way))))
+            ⊎ ((c : Row (E .system .State)) × (c ∈ offers E (length old) new) × (c .state ≡ y) × (¬ (Sooner (u ++ (s ∷ [])) (c .way))))
         which q d e l (inl m) = inl (nearer-next q s y (in-left q old new m) (v .nearer q m) e)
         which q d e l (inr m) =
-            let c = offers-complete S (length old) new q s y m e in
-            inr (c .0, c .1, c .2, λ k. least-snoc (q .state) (q .way) u s d l (subst (λ z. Sooner (u ++ (s ∷ [])) z) (c .3) k))
+            let c = offers-complete E (length old) new q s y m e in
+            inr (c .0, c .1, c .2, λ k. least-snoc (E .system) (q .state) (q .way) u s d l (subst (λ w. Sooner (u ++ (s ∷ [])) w) (c .3) k))
 
     -- an offered row: its way leads to its state in j + 1 steps
-    offered-leads : (c : Row (S .State)) → c ∈ offers S (length old) new → LeadsTo S (c .way) (c .state) × (length (c .way) ≡ suc j)
+    offered-leads : (c : Row (E .system .State)) → c ∈ offers E (length old) new → LeadsTo (E .system) (c .way) (c .state) × (length (c .way) ≡ suc j)
     offered-leads c h =
-        let f = offers-sound S (length old) new c h in
+        let f = offers-sound E (length old) new c h in
         let q = f .1 in
         let m = at-in new (f .0) q (f .3) in
         let l = v .least q (in-right q old new m) .leads in (
-          subst (λ z. LeadsTo S z (c .state)) (sym (f .4 .way)) (snoc-run S (q .way) (f .2) (S .start) (c .state) (q .state) l (f .4 .next)),
+          subst (λ w. LeadsTo (E .system) w (c .state)) (sym (f .4 .way)) (snoc-run (E .system) (q .way) (f .2) (E .system .start) (c .state) (q .state) l (f .4 .next)),
           ap length (f .4 .way) ∙ length-snoc (q .way) (f .2) ∙ ap suc (v .level q m),
         )
 
-    module _ (fresh : List (Row (S .State))) (g : Grown S (old ++ new) (offers S (length old) new) fresh) where
-      next-complete : (w : List ℕ) (x : S .State) → LeadsTo S w x → length w ≤ suc j → Has ((old ++ new) ++ fresh) x
+    module _ (fresh : List (Row (E .system .State))) (g : Grown (E .system) (old ++ new) (offers E (length old) new) fresh) where
+      next-complete : (w : List ℕ) (x : E .system .State) → LeadsTo (E .system) w x → length w ≤ suc j → Has ((old ++ new) ++ fresh) x
       next-complete w x h n = which (last-of w)
         where
           found :
               Has (old ++ new) x
-              ⊎ ((c : Row (S .State)) × (c ∈ offers S (length old) new) × (c .state ≡ x) × (¬ (Sooner w (c .way)))) →
+              ⊎ ((c : Row (E .system .State)) × (c ∈ offers E (length old) new) × (c .state ≡ x) × (¬ (Sooner w (c .way)))) →
               Has ((old ++ new) ++ fresh) x
           found (inl k) = has-left (old ++ new) fresh x k
           found (inr c) = let k = g .covers (c .0) (c .1) in (k .0, k .1, k .2 ∙ c .2)
@@ -147,10 +163,10 @@ module _ (S : System) where
           which (inl e) = has-left (old ++ new) fresh x (v .complete w x h (omega (arith, ap length e)))
           which (inr f) =
               found
-              (subst (λ z. Has (old ++ new) x ⊎ ((c : Row (S .State)) × (c ∈ offers S (length old) new) × (c .state ≡ x) × (¬ (Sooner z (c .way))))) (sym (f .2))
-              (met (f .0) (f .1) x (subst (λ z. LeadsTo S z x) (f .2) h) (omega (arith, ap length (f .2), length-snoc (f .0) (f .1)))))
+              (subst (λ w. Has (old ++ new) x ⊎ ((c : Row (E .system .State)) × (c ∈ offers E (length old) new) × (c .state ≡ x) × (¬ (Sooner w (c .way))))) (sym (f .2))
+              (met (f .0) (f .1) x (subst (λ w. LeadsTo (E .system) w x) (f .2) h) (omega (arith, ap length (f .2), length-snoc (f .0) (f .1)))))
 
-      fresh-least : (r : Row (S .State)) → r ∈ fresh → Least S (r .state) (r .way)
+      fresh-least : (r : Row (E .system .State)) → r ∈ fresh → Least (E .system) (r .state) (r .way)
       fresh-least r h = record { leads = offered-leads r (g .from r h) .0; none-sooner = none-sooner }
         where
           longer : (w : List ℕ) → Sooner w (r .way) → length w ≤ suc j
@@ -160,31 +176,24 @@ module _ (S : System) where
           refuted :
               (w : List ℕ) → Sooner w (r .way) →
               Has (old ++ new) (r .state)
-              ⊎ ((c : Row (S .State)) × (c ∈ offers S (length old) new) × (c .state ≡ r .state) × (¬ (Sooner w (c .way)))) → ⊥
+              ⊎ ((c : Row (E .system .State)) × (c ∈ offers E (length old) new) × (c .state ≡ r .state) × (¬ (Sooner w (c .way)))) → ⊥
           refuted w k (inl d) = g .new r h d
           refuted w k (inr c) = which (sooner-total (c .0 .way) w)
             where
               which : Sooner (c .0 .way) w ⊎ ((c .0 .way ≡ w) ⊎ Sooner w (c .0 .way)) → ⊥
               which (inl d) = g .soonest r (c .0) h (c .1) (c .2) (sooner-trans (c .0 .way) w (r .way) d k)
-              which (inr (inl e)) = g .soonest r (c .0) h (c .1) (c .2) (subst (λ z. Sooner z (r .way)) (sym e) k)
+              which (inr (inl e)) = g .soonest r (c .0) h (c .1) (c .2) (subst (λ w. Sooner w (r .way)) (sym e) k)
               which (inr (inr d)) = c .3 d
 
-          none-sooner : (w : List ℕ) → LeadsTo S w (r .state) → ¬ (Sooner w (r .way))
+          none-sooner : (w : List ℕ) → LeadsTo (E .system) w (r .state) → ¬ (Sooner w (r .way))
           none-sooner w l k = which (last-of w)
             where
               which : (w ≡ []) ⊎ ((u : List ℕ) × (s : ℕ) × (w ≡ u ++ (s ∷ []))) → ⊥
               which (inl e) = g .new r h (v .complete w (r .state) l (omega (arith, ap length e)))
               which (inr f) =
-                  refuted (f .0 ++ (f .1 ∷ [])) (subst (λ z. Sooner z (r .way)) (f .2) k)
-                  (met (f .0) (f .1) (r .state) (subst (λ z. LeadsTo S z (r .state)) (f .2) l)
+                  refuted (f .0 ++ (f .1 ∷ [])) (subst (λ w. Sooner w (r .way)) (f .2) k)
+                  (met (f .0) (f .1) (r .state) (subst (λ w. LeadsTo (E .system) w (r .state)) (f .2) l)
                   (omega (arith, longer w k, ap length (f .2), length-snoc (f .0) (f .1))))
-
-      within : (r : Row (S .State)) → r ∈ (old ++ new) → length (r .way) ≤ j
-      within r h = which (in-either r old new h)
-        where
-          which : (r ∈ old) ⊎ (r ∈ new) → length (r .way) ≤ j
-          which (inl m) = omega (arith, v .nearer r m)
-          which (inr m) = omega (arith, v .level r m)
 
       next-linked : RowsLinked ((old ++ new) ++ fresh)
       next-linked =
@@ -195,29 +204,21 @@ module _ (S : System) where
           }
         where
           as-before :
-              (r : Row (S .State)) →
+              (r : Row (E .system .State)) →
               (getElem? (old ++ new) 0 ≡ some r) ⊎ ((k : ℕ) × (0 ≡ length (old ++ new) + k) × (getElem? fresh k ≡ some r)) →
               getElem? (old ++ new) 0 ≡ some r
           as-before r (inl e) = e
           as-before r (inr f) = absurd (omega (arith, v .some-row, f .1))
 
           other :
-              (i : ℕ) (r : Row (S .State)) → 0 < i →
+              (i : ℕ) (r : Row (E .system .State)) → 0 < i →
               (getElem? (old ++ new) i ≡ some r) ⊎ ((k : ℕ) × (i ≡ length (old ++ new) + k) × (getElem? fresh k ≡ some r)) →
               Behind ((old ++ new) ++ fresh) i r
           other i r n (inl e) =
               let b = v .linked .other i r n e in
-              record {
-                slot = b .slot;
-                earlier = b .earlier;
-                parent = b .parent;
-                parent-at = at-left (old ++ new) fresh (b .slot) (b .parent) (b .parent-at);
-                step = b .step;
-                way = b .way;
-                from = b .from;
-              }
+              behind-among (old ++ new) ((old ++ new) ++ fresh) i r b (at-left (old ++ new) fresh (b .slot) (b .parent) (b .parent-at))
           other i r n (inr f) =
-              let o = offers-sound S (length old) new r (g .from r (at-in fresh (f .0) r (f .2))) in
+              let o = offers-sound E (length old) new r (g .from r (at-in fresh (f .0) r (f .2))) in
               let p : getElem? (old ++ new) (length old + o .0) ≡ some (o .1) = at-right old new (o .0) ∙ o .3 in
               record {
                 slot = length old + o .0;
@@ -229,42 +230,42 @@ module _ (S : System) where
                 from = o .4 .from;
               }
 
-      next-level : Level (suc j) (old ++ new) fresh
+      next-level : Level (E .system) (suc j) (old ++ new) fresh
       next-level =
           record {
             complete = next-complete;
             least = λ r h. least r (in-either r (old ++ new) fresh h);
             ordered =
                 pairwise-append RowSooner (old ++ new) fresh (v .ordered) (g .ordered)
-                (λ a b h k. inl (omega (arith, within a h, offered-leads b (g .from b k) .1)));
-            nearer = λ r h. omega (arith, within r h);
+                (λ a b h k. inl (omega (arith, rows-within (E .system) j old new v a h, offered-leads b (g .from b k) .1)));
+            nearer = λ r h. omega (arith, rows-within (E .system) j old new v r h);
             level = λ r h. offered-leads r (g .from r h) .1;
             linked = next-linked;
             some-row = omega (arith, v .some-row, length-append (old ++ new) fresh);
           }
         where
-          least : (r : Row (S .State)) → (r ∈ (old ++ new)) ⊎ (r ∈ fresh) → Least S (r .state) (r .way)
+          least : (r : Row (E .system .State)) → (r ∈ (old ++ new)) ⊎ (r ∈ fresh) → Least (E .system) (r .state) (r .way)
           least r (inl h) = v .least r h
           least r (inr h) = fresh-least r h
 
     -- adding what the level's steps lead to gives the next level
     pub level-next :
-        (fresh : List (Row (S .State))) × (add-all S (old ++ new) (offers S (length old) new) ≡ (old ++ new) ++ fresh) × Level (suc j) (old ++ new) fresh
+        (fresh : List (Row (E .system .State))) × (add-all E (old ++ new) (offers E (length old) new) ≡ (old ++ new) ++ fresh) × Level (E .system) (suc j) (old ++ new) fresh
     level-next =
-        let g = grows S (old ++ new) (offers S (length old) new) (offers-ordered S (length old) new (pairwise-right RowSooner old new (v .ordered))) in
+        let g = grows E (old ++ new) (offers E (length old) new) (offers-ordered E (length old) new (pairwise-right RowSooner old new (v .ordered))) in
         (g .0, g .1, next-level (g .0) (g .2))
 
   -- every distance has its level
-  pub level-at : (j : ℕ) → (old : List (Row (S .State))) × (new : List (Row (S .State))) × Level j old new
-  level-at zero = ([], start-row S ∷ [], level-zero)
+  pub level-at : (j : ℕ) → (old : List (Row (E .system .State))) × (new : List (Row (E .system .State))) × Level (E .system) j old new
+  level-at zero = ([], start-row (E .system) ∷ [], level-zero (E .system))
   level-at (suc j) =
       let v = level-at j in
       let n = level-next j (v .0) (v .1) (v .2) in
       (v .0 ++ v .1, n .0, n .2)
 
   -- a state that can be reached has a least schedule
-  pub least-of : (w : List ℕ) (x : S .State) → LeadsTo S w x → (u : List ℕ) × Least S x u
+  pub least-of : (w : List ℕ) (x : E .system .State) → LeadsTo (E .system) w x → (u : List ℕ) × Least (E .system) x u
   least-of w x h =
       let v = level-at (length w) in
       let r = v .2 .complete w x h (omega arith) in
-      (r .0 .way, subst (λ z. Least S z (r .0 .way)) (r .2) (v .2 .least (r .0) (r .1)))
+      (r .0 .way, subst (λ z. Least (E .system) z (r .0 .way)) (r .2) (v .2 .least (r .0) (r .1)))

@@ -2,8 +2,8 @@
 use mathlib.Core.Path.{_≡_, refl, sym, _∙_, ap, ap₂, subst}
 use mathlib.Core.Logic.{_⊎_, inl, inr}
 use mathlib.Core.List.{List, [], _∷_, _++_, map}
-use mathlib.Core.Option.{Option, none, some}
-use Prim.Native.Nat.{ℕ, zero, suc, _+_, _≤_, _<_, zero-le, suc-le-suc}
+use mathlib.Core.Option.{Option, none, some, Option·none-ne-some}
+use Prim.Native.Nat.{ℕ, zero, suc, _+_, _≤_, _<_, zero-le}
 use native.Mathlib.Nat.{zero-add, suc-add}
 use native.Mathlib.Omega.{arith}
 use lib.ListN.{length, getElem?, getD, set, replicate, take, drop}
@@ -120,15 +120,6 @@ module _ {A : Type 0} where
   pairwise-imp R Q f [] p = tt
   pairwise-imp R Q f (x ∷ l) p = (all-imp (R x) (Q x) (f x) l (p .0), pairwise-imp R Q f l (p .1))
 
-  -- of two elements of a list that is pairwise in a relation: equal, or one way round or the other
-  pub pairwise-cases :
-      (R : A → A → Type 0) (l : List A) → Pairwise R l → (x y : A) → x ∈ l → y ∈ l → (x ≡ y) ⊎ (R x y ⊎ R y x)
-  pairwise-cases R [] p x y h k = absurd h
-  pairwise-cases R (a ∷ l) p x y (inl e) (inl d) = inl (e ∙ sym d)
-  pairwise-cases R (a ∷ l) p x y (inl e) (inr k) = inr (inl (subst (λ z. R z y) (sym e) (all-at (R a) l (p .0) y k)))
-  pairwise-cases R (a ∷ l) p x y (inr h) (inl d) = inr (inr (subst (λ z. R z x) (sym d) (all-at (R a) l (p .0) x h)))
-  pairwise-cases R (a ∷ l) p x y (inr h) (inr k) = pairwise-cases R l (p .1) x y h k
-
   -- the list without one of its elements
   without : (x : A) (l : List A) → x ∈ l → List A
   without x [] h = absurd h
@@ -160,10 +151,7 @@ module _ {A : Type 0} where
       omega (arith, without-length x m h)
 
   pub at-in : (l : List A) (i : ℕ) (x : A) → getElem? l i ≡ some x → x ∈ l
-  at-in [] i x e = absurd (never e)
-    where
-      never : _≡_ {A = Option A} none (some x) → ⊥
-      never e = let z : _≡_ {A = ℕ} 0 1 = cc in omega arith
+  at-in [] i x e = absurd (Option·none-ne-some x e)
   at-in (y ∷ l) zero x e = inl (cc)
   at-in (y ∷ l) (suc i) x e = inr (at-in l i x e)
 
@@ -173,10 +161,7 @@ module _ {A : Type 0} where
   in-at (y ∷ l) x (inr h) = let r = in-at l x h in (suc (r .0), r .1)
 
   pub at-left : (l m : List A) (i : ℕ) (x : A) → getElem? l i ≡ some x → getElem? (l ++ m) i ≡ some x
-  at-left [] m i x e = absurd (never e)
-    where
-      never : _≡_ {A = Option A} none (some x) → ⊥
-      never e = let z : _≡_ {A = ℕ} 0 1 = cc in omega arith
+  at-left [] m i x e = absurd (Option·none-ne-some x e)
   at-left (y ∷ l) m zero x e = e
   at-left (y ∷ l) m (suc i) x e = at-left l m i x e
 
@@ -184,11 +169,13 @@ module _ {A : Type 0} where
   at-right [] m i = rw zero-add
   at-right (y ∷ l) m i = rw suc-add (at-right l m i)
 
+  pub at-past : (l : List A) (i : ℕ) → length l ≤ i → getElem? l i ≡ none
+  at-past [] i h = refl
+  at-past (y ∷ l) zero h = absurd (omega arith)
+  at-past (y ∷ l) (suc i) h = at-past l i (omega arith)
+
   pub at-below : (l : List A) (i : ℕ) (x : A) → getElem? l i ≡ some x → i < length l
-  at-below [] i x e = absurd (never e)
-    where
-      never : _≡_ {A = Option A} none (some x) → ⊥
-      never e = let z : _≡_ {A = ℕ} 0 1 = cc in omega arith
+  at-below [] i x e = absurd (Option·none-ne-some x e)
   at-below (y ∷ l) zero x e = omega arith
   at-below (y ∷ l) (suc i) x e = let h = at-below l i x e in omega arith
 
@@ -201,6 +188,10 @@ module _ {A : Type 0} where
   at-getD [] i x d e = absurd (at-in [] i x e)
   at-getD (y ∷ l) zero x d e = cc
   at-getD (y ∷ l) (suc i) x d e = at-getD l i x d e
+
+  -- below the end of a list, the default is not what is read
+  pub at-default : (l : List A) (i : ℕ) (d : A) → i < length l → getElem? l i ≡ some (getD l i d)
+  at-default l i d h = let x = below-at l i h in x .1 ∙ ap {B = Option A} some (sym (at-getD l i (x .0) d (x .1)))
 
   pub take-one-more : (l : List A) (i : ℕ) (x : A) → getElem? l i ≡ some x → take (suc i) l ≡ take i l ++ (x ∷ [])
   take-one-more [] i x e = absurd (at-in [] i x e)
@@ -243,19 +234,13 @@ module _ {A : Type 0} where
 
 pub at-map : {A B : Type 0} (f : A → B) (l : List A) (i : ℕ) (y : B) → getElem? (map f l) i ≡ some y
     → (x : A) × (getElem? l i ≡ some x) × (f x ≡ y)
-at-map {B = B} f [] i y e = absurd (never e)
-  where
-    never : _≡_ {A = Option B} none (some y) → ⊥
-    never e = let z : _≡_ {A = ℕ} 0 1 = cc in omega arith
+at-map f [] i y e = absurd (Option·none-ne-some y e)
 at-map f (a ∷ l) zero y e = (a, refl, cc)
 at-map f (a ∷ l) (suc i) y e = at-map f l i y e
 
 pub map-at : {A B : Type 0} (f : A → B) (l : List A) (i : ℕ) (x : A) → getElem? l i ≡ some x → getElem? (map f l) i ≡ some (f x)
-map-at {A} {B} f [] i x e = absurd (never e)
-  where
-    never : _≡_ {A = Option A} none (some x) → ⊥
-    never e = let z : _≡_ {A = ℕ} 0 1 = cc in omega arith
-map-at {A} {B} f (a ∷ l) zero x e = let d : a ≡ x = cc in ap {B = Option B} (λ z. some (f z)) d
+map-at f [] i x e = absurd (Option·none-ne-some x e)
+map-at {B = B} f (a ∷ l) zero x e = let d : a ≡ x = cc in ap {B = Option B} (λ z. some (f z)) d
 map-at f (a ∷ l) (suc i) x e = map-at f l i x e
 
 pub map-append : {A B : Type 0} (f : A → B) (l m : List A) → map f (l ++ m) ≡ map f l ++ map f m

@@ -3,12 +3,14 @@ use mathlib.Core.Path.{_≡_}
 use mathlib.Core.Logic.{_↔_}
 use mathlib.Core.List.{List, [], _∷_, _++_}
 use mathlib.Core.Option.{some}
-use Prim.Native.Nat.{ℕ, _+_, _*_, _≤_, _<_}
+use Prim.Native.Nat.{ℕ, suc, _+_, _*_, _≤_, _<_}
 use lib.Dec.{T}
 use lib.ListN.{length, getElem?}
 use Rattle.reach.specs.Lists.{_∈_, Pairwise, Distinct}
 use Rattle.reach.specs.System.{System, run}
-use Rattle.reach.specs.Order.{Sooner, First}
+use Rattle.reach.specs.Order.{Earlier, Sooner, First}
+
+-- Distances and goals.
 
 -- the schedule w can be run from the start, and ends in x
 abbrev pub LeadsTo : (S : System) → List ℕ → S .State → Type 0
@@ -58,6 +60,8 @@ pub record GoalSchedule (S : System) (d : ℕ) (w : List ℕ) : Type 0 where
   pub leads : LeadsTo S w goal
   pub steps : length w ≡ d
 
+-- What slots and links hold.
+
 -- a state's first shortest schedule
 pub record FirstShortest (S : System) (x : S .State) (w : List ℕ) : Type 0 where
   pub shortest : Distance S x (length w)
@@ -83,6 +87,11 @@ pub record HoldsFirst (S : System) (n : ℕ) (slots : List (S .State)) : Type 0 
   pub reached : (x : S .State) → x ∈ slots → Reached S x
   pub closed : (x y : S .State) → y ∈ slots → SlotBefore S x y → x ∈ slots
 
+-- the slots' bytes: those of one state after another, each as `code` lays it out
+unfoldable pub slots-bytes : {X : Type 0} → (code : X → List ℕ) → List X → List ℕ
+slots-bytes code [] = []
+slots-bytes code (x ∷ l) = code x ++ slots-bytes code l
+
 -- "Link 0 is 4,294,967,295; each other link is 64 times the slot of the state before the last step of that schedule, plus that step."
 abbrev pub no-link : ℕ
 no-link = 4294967295
@@ -107,6 +116,8 @@ pub record Linked (S : System) (slots : List (S .State)) (links : List ℕ) : Ty
   pub number : length links ≡ length slots
   pub zeroth : (l : ℕ) → getElem? links 0 ≡ some l → l ≡ no-link
   pub other : (i : ℕ) (x : S .State) (l : ℕ) → 0 < i → getElem? slots i ≡ some x → getElem? links i ≡ some l → LinkOf S slots x l
+
+-- The three answers.
 
 pub data Answer : Type 0 where
   reachable : (d states : ℕ) → Answer
@@ -155,3 +166,22 @@ MeansAt S N (unknown n) o = IsUnknown S N n o
 -- the outcome is what a search of the system with N slots must give
 abbrev pub Means : (S : System) → ℕ → Outcome (S .State) → Type 0
 Means S N o = MeansAt S N (o .answer) o
+
+-- The same in the words of the bench's second demand.
+
+-- "Reachable" brings the shortest schedule, the first in step order among equals, and it replays to the goal.
+pub record Brings (S : System) (d : ℕ) (w : List ℕ) : Type 0 where
+  pub goal : S .State
+  pub replays : LeadsTo S w goal
+  pub holds : T (S .goal goal)
+  pub steps : length w ≡ d
+  pub none-shorter : (v : List ℕ) (x : S .State) → LeadsTo S v x → T (S .goal x) → d ≤ length v
+  pub none-before : (v : List ℕ) (x : S .State) → LeadsTo S v x → T (S .goal x) → length v ≡ length w → ¬ (Earlier v w)
+
+-- The states up to the goal's distance, or all states if no goal can be reached, outnumber N.
+pub record Outnumber (S : System) (N : ℕ) : Type 0 where
+  pub states : List (S .State)
+  pub distinct : Distinct states
+  pub number : length states ≡ suc N
+  pub reached : (x : S .State) → x ∈ states → Reached S x
+  pub near : (x : S .State) → x ∈ states → (d : ℕ) → LeastGoal S d → AtMost S d x

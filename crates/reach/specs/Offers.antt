@@ -3,17 +3,18 @@ use mathlib.Core.Path.{_≡_, refl, sym, _∙_, ap, subst}
 use mathlib.Core.Logic.{_⊎_, inl, inr}
 use mathlib.Core.List.{List, [], _∷_, _++_}
 use mathlib.Core.Option.{Option, none, some}
-use Prim.Native.Nat.{ℕ, zero, suc, _+_, _≤_, _<_}
-use native.Mathlib.Nat.{add-zero, add-suc, suc-add}
+use Prim.Native.Nat.{ℕ, zero, suc, _+_, _<_}
+use native.Mathlib.Nat.{add-zero}
 use native.Mathlib.Omega.{arith}
 use native.Mathlib.Decide.{decLt}
-use lib.ListN.{length, getElem?}
-use Rattle.reach.specs.Lists.{_∈_, All, Pairwise}
+use lib.ListN.{getElem?}
+use Rattle.reach.specs.Lists.{_∈_, Pairwise}
 use Rattle.reach.specs.ListLaws.{in-left, in-right, in-either, all-at, pairwise-append, at-in}
 use Rattle.reach.specs.System.{System}
 use Rattle.reach.specs.OrderLaws.{sooner-snoc, sooner-last}
 use Rattle.reach.specs.RunLaws.{step-below}
 use Rattle.reach.specs.Meaning.{link}
+use Rattle.reach.specs.Searchable.{Searchable}
 use Rattle.reach.specs.Rows.{Row, offer-of, offer, offers-below, offers}
 use Rattle.reach.specs.Growth.{RowSooner}
 
@@ -32,9 +33,9 @@ module _ (S : System) where
       given none e k = absurd k
       given (some y) e (inl d) =
           record {
-            next = e ∙ ap {B = Option (S .State)} (λ z. some (z .state)) (sym d);
-            way = ap (λ z. z .way) d;
-            from = ap (λ z. z .from) d;
+            next = e ∙ ap {B = Option (S .State)} (λ r. some (r .state)) (sym d);
+            way = ap (λ r. r .way) d;
+            from = ap (λ r. r .from) d;
           }
       given (some y) e (inr k) = absurd k
 
@@ -87,55 +88,56 @@ module _ (S : System) where
       rising : (a b : Row (S .State)) → (s : ℕ) × (s < k) × Offered S p r s a → Offered S p r k b → RowSooner a b
       rising a b f g = rw (f .2 .way, g .way) (sooner-last (r .way) (f .0) k (f .1))
 
+module _ (E : Searchable) where
   -- nothing else
   pub offers-sound :
-      (p : ℕ) (rows : List (Row (S .State))) (c : Row (S .State)) → c ∈ offers S p rows →
-      (i : ℕ) × (q : Row (S .State)) × (s : ℕ) × (getElem? rows i ≡ some q) × Offered S (p + i) q s c
+      (p : ℕ) (rows : List (Row (E .system .State))) (c : Row (E .system .State)) → c ∈ offers E p rows →
+      (i : ℕ) × (q : Row (E .system .State)) × (s : ℕ) × (getElem? rows i ≡ some q) × Offered (E .system) (p + i) q s c
   unfolding offers
   offers-sound p [] c h = absurd h
   offers-sound p (r ∷ rows) c h =
-      which (in-either c (offers-below S p r (S .bound)) (offers S (suc p) rows) h) (offers-sound (suc p) rows c)
+      which (in-either c (offers-below (E .system) p r (E .bound)) (offers E (suc p) rows) h) (offers-sound (suc p) rows c)
     where
       which :
-          (c ∈ offers-below S p r (S .bound)) ⊎ (c ∈ offers S (suc p) rows) →
-          (c ∈ offers S (suc p) rows → (i : ℕ) × (q : Row (S .State)) × (s : ℕ) × (getElem? rows i ≡ some q) × Offered S (suc p + i) q s c) →
-          (i : ℕ) × (q : Row (S .State)) × (s : ℕ) × (getElem? (r ∷ rows) i ≡ some q) × Offered S (p + i) q s c
-      which (inl m) again = let f = below-sound p r (S .bound) c m in (0, r, f .0, refl, rw add-zero (f .2))
+          (c ∈ offers-below (E .system) p r (E .bound)) ⊎ (c ∈ offers E (suc p) rows) →
+          (c ∈ offers E (suc p) rows → (i : ℕ) × (q : Row (E .system .State)) × (s : ℕ) × (getElem? rows i ≡ some q) × Offered (E .system) (suc p + i) q s c) →
+          (i : ℕ) × (q : Row (E .system .State)) × (s : ℕ) × (getElem? (r ∷ rows) i ≡ some q) × Offered (E .system) (p + i) q s c
+      which (inl m) again = let f = below-sound (E .system) p r (E .bound) c m in (0, r, f .0, refl, rw add-zero (f .2))
       which (inr m) again =
           let f = again m in
           let e : suc p + f .0 ≡ p + suc (f .0) = omega arith in
-          (suc (f .0), f .1, f .2, f .3, subst (λ n. Offered S n (f .1) (f .2) c) e (f .4))
+          (suc (f .0), f .1, f .2, f .3, subst (λ n. Offered (E .system) n (f .1) (f .2) c) e (f .4))
 
   -- all of it
   pub offers-complete :
-      (p : ℕ) (rows : List (Row (S .State))) (q : Row (S .State)) (s : ℕ) (y : S .State) → q ∈ rows → S .next s (q .state) ≡ some y →
-      (c : Row (S .State)) × (c ∈ offers S p rows) × (c .state ≡ y) × (c .way ≡ q .way ++ (s ∷ []))
+      (p : ℕ) (rows : List (Row (E .system .State))) (q : Row (E .system .State)) (s : ℕ) (y : E .system .State) → q ∈ rows → E .system .next s (q .state) ≡ some y →
+      (c : Row (E .system .State)) × (c ∈ offers E p rows) × (c .state ≡ y) × (c .way ≡ q .way ++ (s ∷ []))
   unfolding offers
   offers-complete p [] q s y h e = absurd h
   offers-complete p (r ∷ rows) q s y (inl d) e =
-      let n = step-below S s (q .state) y e in
-      let f : S .next s (r .state) ≡ some y = subst (λ z. S .next s (z .state) ≡ some y) d e in (
+      let n = step-below E s (q .state) y e in
+      let f : E .system .next s (r .state) ≡ some y = subst (λ r. E .system .next s (r .state) ≡ some y) d e in (
         record { state = y; way = r .way ++ (s ∷ []); from = link p s },
-        in-left _ (offers-below S p r (S .bound)) (offers S (suc p) rows) (below-complete p r (S .bound) s y n f),
+        in-left _ (offers-below (E .system) p r (E .bound)) (offers E (suc p) rows) (below-complete (E .system) p r (E .bound) s y n f),
         refl,
-        ap (λ z. z .way ++ (s ∷ [])) (sym d),
+        ap (λ r. r .way ++ (s ∷ [])) (sym d),
       )
   offers-complete p (r ∷ rows) q s y (inr h) e =
       let f = offers-complete (suc p) rows q s y h e in
-      (f .0, in-right (f .0) (offers-below S p r (S .bound)) (offers S (suc p) rows) (f .1), f .2, f .3)
+      (f .0, in-right (f .0) (offers-below (E .system) p r (E .bound)) (offers E (suc p) rows) (f .1), f .2, f .3)
 
   -- in order, where the rows are
-  pub offers-ordered : (p : ℕ) (rows : List (Row (S .State))) → Pairwise RowSooner rows → Pairwise RowSooner (offers S p rows)
+  pub offers-ordered : (p : ℕ) (rows : List (Row (E .system .State))) → Pairwise RowSooner rows → Pairwise RowSooner (offers E p rows)
   unfolding offers
   offers-ordered p [] h = tt
   offers-ordered p (r ∷ rows) h =
-      pairwise-append RowSooner (offers-below S p r (S .bound)) (offers S (suc p) rows) (below-ordered p r (S .bound))
+      pairwise-append RowSooner (offers-below (E .system) p r (E .bound)) (offers E (suc p) rows) (below-ordered (E .system) p r (E .bound))
       (offers-ordered (suc p) rows (h .1))
-      (λ a b m n. rising a b (below-sound p r (S .bound) a m) (offers-sound (suc p) rows b n))
+      (λ a b m n. rising a b (below-sound (E .system) p r (E .bound) a m) (offers-sound (suc p) rows b n))
     where
       rising :
-          (a b : Row (S .State)) → (s : ℕ) × (s < S .bound) × Offered S p r s a →
-          (i : ℕ) × (q : Row (S .State)) × (s : ℕ) × (getElem? rows i ≡ some q) × Offered S (suc p + i) q s b → RowSooner a b
+          (a b : Row (E .system .State)) → (s : ℕ) × (s < E .bound) × Offered (E .system) p r s a →
+          (i : ℕ) × (q : Row (E .system .State)) × (s : ℕ) × (getElem? rows i ≡ some q) × Offered (E .system) (suc p + i) q s b → RowSooner a b
       rising a b f g =
           rw (f .2 .way, g .4 .way)
           (sooner-snoc (r .way) (g .1 .way) (f .0) (g .2) (all-at (RowSooner r) rows (h .0) (g .1) (at-in rows (g .0) (g .1) (g .3))))

@@ -1,11 +1,10 @@
 -- Laws of the order of schedules: `Earlier` on equal lengths and `Sooner` are strict and total.
-use mathlib.Core.Path.{_≡_, refl, sym, _∙_, ap, ap₂, subst}
+use mathlib.Core.Path.{_≡_, refl, sym, _∙_, ap, ap₂}
 use mathlib.Core.Logic.{_⊎_, inl, inr}
 use mathlib.Core.List.{List, [], _∷_, _++_}
-use Prim.Native.Nat.{ℕ, zero, suc, _+_, _≤_, _<_}
+use Prim.Native.Nat.{ℕ, suc, _<_}
 use native.Mathlib.Decide.{decLt}
 use native.Mathlib.Omega.{arith}
-use native.Mathlib.Nat.{suc-inj}
 use lib.ListN.{length, length-append}
 use Rattle.reach.specs.ListLaws.{append-equal}
 use Rattle.reach.specs.Order.{Earlier, Sooner}

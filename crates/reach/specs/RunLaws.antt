@@ -1,19 +1,20 @@
 -- Laws of runs, and of the first shortest schedule as the least in the order `Sooner`.
-use mathlib.Core.Path.{_≡_, refl, sym, _∙_, ap, subst}
+use mathlib.Core.Path.{_≡_, refl, sym, _∙_}
 use mathlib.Core.Logic.{_⊎_, inl, inr}
 use mathlib.Core.List.{List, [], _∷_, _++_}
-use mathlib.Core.Option.{Option, none, some}
-use Prim.Native.Nat.{ℕ, zero, suc, _≤_, _<_}
+use mathlib.Core.Option.{Option, none, some, Option·none-ne-some}
+use Prim.Native.Nat.{ℕ, _≤_, _<_}
 use native.Mathlib.Omega.{arith}
 use native.Mathlib.Decide.{decLt, decLe}
 use lib.ListN.{length}
 use Rattle.reach.specs.System.{System, andThen, run}
-use Rattle.reach.specs.Order.{Earlier, Sooner, First}
-use Rattle.reach.specs.OrderLaws.{sooner-total, sooner-irrefl}
-use Rattle.reach.specs.Meaning.{LeadsTo, Distance, FirstShortest}
+use Rattle.reach.specs.Order.{Sooner}
+use Rattle.reach.specs.OrderLaws.{sooner-total}
+use Rattle.reach.specs.Meaning.{LeadsTo, Distance, Reached, FirstShortest}
+use Rattle.reach.specs.Searchable.{Searchable}
 
 pub none-is-not-some : {A : Type 0} {a : A} → none ≡ some a → ⊥
-none-is-not-some e = let z : _≡_ {A = ℕ} 0 1 = cc in omega arith
+none-is-not-some {a = a} e = Option·none-ne-some a e
 
 module _ {A B : Type 0} where
   -- what was given twice in a row was given once, and then again
@@ -47,14 +48,6 @@ module _ (S : System) where
   pub snoc-run :
       (u : List ℕ) (s : ℕ) (x y z : S .State) → run S u x ≡ some z → S .next s z ≡ some y → run S (u ++ (s ∷ [])) x ≡ some y
   snoc-run u s x y z e d = rw (run-append, e, d)
-
-  -- a step that may be taken has a number below the bound
-  pub step-below : (s : ℕ) (x y : S .State) → S .next s x ≡ some y → s < S .bound
-  step-below s x y e = decide (decLt s (S .bound))
-    where
-      decide : Dec (s < S .bound) → s < S .bound
-      decide (yes h) = h
-      decide (no n) = absurd (none-is-not-some (sym (S .beyond s x (omega arith)) ∙ e))
 
   -- the least schedule to a state in the order `Sooner`
   pub record Least (x : S .State) (w : List ℕ) : Type 0 where
@@ -91,6 +84,17 @@ module _ (S : System) where
   pub leads-unique : (w : List ℕ) (x y : S .State) → LeadsTo S w x → LeadsTo S w y → x ≡ y
   leads-unique w x y h k = let e : some x ≡ some y = sym h ∙ k in cc
 
+  pub distance-reached : (x : S .State) (k : ℕ) → Distance S x k → Reached S x
+  distance-reached x k h = record { way = h .way; leads = h .leads }
+
   pub distance-unique : (x : S .State) (j k : ℕ) → Distance S x j → Distance S x k → j ≡ k
   distance-unique x j k h g =
       omega (arith, h .least (g .way) (g .leads), g .least (h .way) (h .leads), h .steps, g .steps)
+
+-- a step that may be taken has a number below the bound
+pub step-below : (E : Searchable) (s : ℕ) (x y : E .system .State) → E .system .next s x ≡ some y → s < E .bound
+step-below E s x y e = decide (decLt s (E .bound))
+  where
+    decide : Dec (s < E .bound) → s < E .bound
+    decide (yes h) = h
+    decide (no n) = absurd (none-is-not-some (sym (E .beyond s x (omega arith)) ∙ e))

@@ -1,22 +1,14 @@
 -- A transition system, and the run of a schedule in it.
-use mathlib.Core.Path.{_≡_}
 use mathlib.Core.Bool.{Bool}
 use mathlib.Core.List.{List, [], _∷_}
 use mathlib.Core.Option.{Option, none, some}
-use Prim.Native.Nat.{ℕ, _≤_}
-use lib.Dec.{T}
+use Prim.Native.Nat.{ℕ}
 
--- A state type with an equality test and its laws; a start; `next`, what a step leads to, with none for a step that may not be taken,
--- as every step number from `bound` upwards; a goal test.
+-- A start; `next`, what a step leads to, with none for a step that may not be taken; a goal test.
 pub record System : Type 1 where
   pub State : Type 0
-  pub same : State → State → Bool
-  pub same-equal : (x y : State) → T (same x y) → x ≡ y
-  pub same-refl : (x : State) → T (same x x)
   pub start : State
-  pub bound : ℕ
   pub next : ℕ → State → Option State
-  pub beyond : (s : ℕ) (x : State) → bound ≤ s → next s x ≡ none
   pub goal : State → Bool
 
 -- the second question asked of what the first gave, if it gave anything

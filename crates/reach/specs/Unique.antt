@@ -1,22 +1,21 @@
 -- Any two outcomes that the meaning allows are equal: answer, slots, links and schedule.
 use mathlib.Core.Path.{_≡_, refl, sym, _∙_, ap, ap₂, subst}
-use mathlib.Core.Logic.{_⊎_, inl, inr, _↔_}
+use mathlib.Core.Logic.{_⊎_, inl, inr}
 use mathlib.Core.List.{List, [], _∷_, _++_}
-use mathlib.Core.Option.{Option, none, some}
-use Prim.Native.Nat.{ℕ, zero, suc, _+_, _*_, _≤_, _<_}
+use mathlib.Core.Option.{some}
+use Prim.Native.Nat.{ℕ, zero, suc, _≤_}
 use native.Mathlib.Omega.{arith}
-use lib.Dec.{T}
-use lib.ListN.{length, length-append, getElem?}
-use lib.Seq.{append-snoc}
-use Rattle.reach.specs.Lists.{_∈_, All, Pairwise, Distinct}
-use Rattle.reach.specs.ListLaws.{in-left, in-right, in-either, in-last, all-at, pairwise-imp, no-longer, at-below, below-at, same-at, same-place}
+use lib.ListN.{length, getElem?}
+use Rattle.reach.specs.Lists.{_∈_, Pairwise, Distinct}
+use Rattle.reach.specs.ListLaws.{in-left, in-right, in-either, all-at, pairwise-imp, no-longer, at-below, below-at, same-at, same-place}
 use Rattle.reach.specs.System.{System}
 use Rattle.reach.specs.Order.{Earlier, Sooner, First}
 use Rattle.reach.specs.OrderLaws.{earlier-total, sooner-irrefl, sooner-trans, sooner-total, snoc-equal}
-use Rattle.reach.specs.RunLaws.{Least, least-first, first-least, least-unique, leads-unique, distance-unique, none-is-not-some}
+use Rattle.reach.specs.Searchable.{Searchable}
+use Rattle.reach.specs.RunLaws.{Least, first-least, least-unique, leads-unique, distance-unique, distance-reached}
 use Rattle.reach.specs.Levels.{least-of}
-use Rattle.reach.specs.Found.{before-ways, before-differ}
-use Rattle.reach.specs.Meaning.{LeadsTo, Distance, AtMost, Reached, Counts, LeastGoal, NoGoal, GoalSchedule, FirstShortest, SlotBefore, Holds, HoldsFirst, no-link, link, LinkOf, Linked, Answer, reachable, unreachable, unknown, Outcome, IsReachable, IsUnreachable, IsUnknown, MeansAt, Means}
+use Rattle.reach.specs.Found.{before-ways, ways-before, before-differ}
+use Rattle.reach.specs.Meaning.{LeadsTo, AtMost, Reached, Counts, LeastGoal, GoalSchedule, SlotBefore, Holds, HoldsFirst, LinkOf, Linked, Answer, reachable, unreachable, unknown, Outcome, MeansAt, Means}
 
 pub counts-unique : {X : Type 0} (P : X → Type 0) (m n : ℕ) → Counts P m → Counts P n → m ≡ n
 counts-unique P m n h k =
@@ -36,6 +35,12 @@ first-unique P u v e h k = which (earlier-total u v e)
     which (inr (inl d)) = d
     which (inr (inr d)) = absurd (h .none-earlier v (k .has) (sym e) d)
 
+-- how many states an answer counts
+abbrev counted : Answer → ℕ
+counted (reachable d n) = n
+counted (unreachable n) = n
+counted (unknown n) = n
+
 module _ (S : System) where
   pub goal-unique : (d e : ℕ) → LeastGoal S d → LeastGoal S e → d ≡ e
   goal-unique d e h k =
@@ -46,22 +51,6 @@ module _ (S : System) where
       let h = first-least S x (b .way) (b .way-first) in
       let k = first-least S y (b .later) (b .later-first) in
       sooner-irrefl (b .way) (sooner-trans (b .way) (b .later) (b .way) (b .sooner) (before-ways S y x (b .later) (b .way) c k h))
-
-  before-total : (x y : S .State) → Reached S x → Reached S y → SlotBefore S x y ⊎ ((x ≡ y) ⊎ SlotBefore S y x)
-  before-total x y h k =
-      let u = least-of S (h .way) x (h .leads) in
-      let v = least-of S (k .way) y (k .leads) in
-      which (u .0) (v .0) (u .1) (v .1) (sooner-total (u .0) (v .0))
-    where
-      before : (x y : S .State) (u v : List ℕ) → Least S x u → Least S y v → Sooner u v → SlotBefore S x y
-      before x y u v a b s = record { way = u; way-first = least-first S x u a; later = v; later-first = least-first S y v b; sooner = s }
-
-      which :
-          (u v : List ℕ) → Least S x u → Least S y v → Sooner u v ⊎ ((u ≡ v) ⊎ Sooner v u) →
-          SlotBefore S x y ⊎ ((x ≡ y) ⊎ SlotBefore S y x)
-      which u v a b (inl s) = inl (before x y u v a b s)
-      which u v a b (inr (inl e)) = inr (inl (leads-unique S u x y (a .leads) (subst (λ w. LeadsTo S w y) (sym e) (b .leads))))
-      which u v a b (inr (inr s)) = inr (inr (before y x v u b a s))
 
   -- what stands behind `seen` in the order of slots, with all that comes before it
   record Follows (seen l : List (S .State)) : Type 0 where
@@ -96,21 +85,8 @@ module _ (S : System) where
 
       later : (y z : S .State) → z ∈ l → (y ∈ seen) ⊎ (y ∈ (x ∷ [])) → SlotBefore S y z
       later y z k (inl h) = f .later y z h (inr k)
-      later y z k (inr (inl e)) = subst (λ a. SlotBefore S a z) (sym e) (all-at (SlotBefore S x) l (f .ordered .0) z k)
+      later y z k (inr (inl e)) = subst (λ x. SlotBefore S x z) (sym e) (all-at (SlotBefore S x) l (f .ordered .0) z k)
       later y z k (inr (inr h)) = absurd h
-
-  follows-equal : (seen l m : List (S .State)) → Follows seen l → Follows seen m → length l ≡ length m → l ≡ m
-  follows-equal seen [] [] f g e = refl
-  follows-equal seen [] (y ∷ m) f g e = absurd (omega arith)
-  follows-equal seen (x ∷ l) [] f g e = absurd (omega arith)
-  follows-equal seen (x ∷ l) (y ∷ m) f g e =
-      which (before-total x y (f .reached x (inl refl)) (g .reached y (inl refl)))
-      (λ d. follows-equal (seen ++ (x ∷ [])) l m (follows-tail seen l x f) (follows-tail seen m x (subst (λ z. Follows seen (z ∷ m)) (sym d) g)) (omega arith))
-    where
-      which : SlotBefore S x y ⊎ ((x ≡ y) ⊎ SlotBefore S y x) → (x ≡ y → l ≡ m) → (x ∷ l) ≡ (y ∷ m)
-      which (inl b) again = absurd (not-before seen l m x y f g b)
-      which (inr (inl d)) again = ap₂ {C = List (S .State)} _∷_ d (again d)
-      which (inr (inr b)) again = absurd (not-before seen m l y x g f b)
 
   first-follows : (n : ℕ) (l : List (S .State)) → HoldsFirst S n l → Follows [] l
   first-follows n l h =
@@ -130,12 +106,6 @@ module _ (S : System) where
     where
       distinct : Distinct l
       distinct = pairwise-imp (SlotBefore S) (λ x y. ¬ (x ≡ y)) (before-differ S) l (h .ordered)
-
-  slots-unique : (n : ℕ) (l m : List (S .State)) → HoldsFirst S n l → HoldsFirst S n m → l ≡ m
-  slots-unique n l m h k = follows-equal [] l m (first-follows n l h) (first-follows n m k) (h .number ∙ sym (k .number))
-
-  at-most-reached : (d : ℕ) (x : S .State) → AtMost S d x → Reached S x
-  at-most-reached d x h = record { way = h .distance .way; leads = h .distance .leads }
 
   at-most-kept : (d : ℕ) (x y : S .State) → AtMost S d y → SlotBefore S x y → AtMost S d x
   at-most-kept d x y h b =
@@ -176,13 +146,8 @@ module _ (S : System) where
           link-unique slots distinct (x .0) a b (h .other (suc i) (x .0) a (omega arith) (x .1) e) (k .other (suc i) (x .0) b (omega arith) (x .1) f)
 
   -- the slots of an outcome are the first of as many as the answer counts
-  abbrev counted : Answer → ℕ
-  counted (reachable d n) = n
-  counted (unreachable n) = n
-  counted (unknown n) = n
-
   held-first : (N : ℕ) (a : Answer) (o : Outcome (S .State)) → MeansAt S N a o → HoldsFirst S (counted a) (o .slots)
-  held-first N (reachable d n) o h = holds-first (AtMost S d) n (o .slots) (at-most-reached d) (at-most-kept d) (h .counted) (h .held)
+  held-first N (reachable d n) o h = holds-first (AtMost S d) n (o .slots) (λ x a. distance-reached S x (a .far) (a .distance)) (at-most-kept d) (h .counted) (h .held)
   held-first N (unreachable n) o h = holds-first (Reached S) n (o .slots) (λ x r. r) reached-kept (h .counted) (h .held)
   held-first N (unknown n) o h = subst (λ k. HoldsFirst S k (o .slots)) (sym (h .gives)) (h .held)
 
@@ -194,13 +159,13 @@ module _ (S : System) where
   answer-unique : (N : ℕ) (a b : Answer) (o p : Outcome (S .State)) → MeansAt S N a o → MeansAt S N b p → a ≡ b
   answer-unique N (reachable d n) (reachable e m) o p h k =
       let q = goal-unique d e (h .least) (k .least) in
-      let r = counts-unique (AtMost S d) n m (h .counted) (subst (λ z. Counts (AtMost S z) m) (sym q) (k .counted)) in
+      let r = counts-unique (AtMost S d) n m (h .counted) (subst (λ k. Counts (AtMost S k) m) (sym q) (k .counted)) in
       ap₂ {C = Answer} reachable q r
   answer-unique N (reachable d n) (unreachable m) o p h k =
-      absurd (k .no-goal (h .least .goal) (h .least .holds) (record { way = h .least .distance .way; leads = h .least .distance .leads }))
+      absurd (k .no-goal (h .least .goal) (h .least .holds) (distance-reached S (h .least .goal) d (h .least .distance)))
   answer-unique N (reachable d n) (unknown m) o p h k = absurd (k .not-reachable d n (h .least) (h .counted) (h .fits))
   answer-unique N (unreachable n) (reachable e m) o p h k =
-      absurd (h .no-goal (k .least .goal) (k .least .holds) (record { way = k .least .distance .way; leads = k .least .distance .leads }))
+      absurd (h .no-goal (k .least .goal) (k .least .holds) (distance-reached S (k .least .goal) e (k .least .distance)))
   answer-unique N (unreachable n) (unreachable m) o p h k = ap {B = Answer} unreachable (counts-unique (Reached S) n m (h .counted) (k .counted))
   answer-unique N (unreachable n) (unknown m) o p h k = absurd (k .not-unreachable n (h .no-goal) (h .counted) (h .fits))
   answer-unique N (unknown n) (reachable e m) o p h k = absurd (h .not-reachable e m (k .least) (k .counted) (k .fits))
@@ -213,13 +178,47 @@ module _ (S : System) where
   schedule-unique N (unreachable n) o p h k = h .none-written ∙ sym (k .none-written)
   schedule-unique N (unknown n) o p h k = h .none-written ∙ sym (k .none-written)
 
-  pub one-outcome : (N : ℕ) (o p : Outcome (S .State)) → Means S N o → Means S N p → o ≡ p
-  one-outcome N o p h k =
-      let a = answer-unique N (o .answer) (p .answer) o p h k in
-      let g : MeansAt S N (o .answer) p = subst (λ z. MeansAt S N z p) (sym a) k in
-      let s =
-      slots-unique (counted (o .answer)) (o .slots) (p .slots) (held-first N (o .answer) o h) (held-first N (o .answer) p g) in
-      let l =
-      links-unique (o .slots) (held-first N (o .answer) o h .ordered) (o .links) (p .links) (linked-of N (o .answer) o h)
-      (subst (λ z. Linked S z (p .links)) (sym s) (linked-of N (o .answer) p g)) in
-      λ i. record { answer = a i; slots = s i; links = l i; schedule = schedule-unique N (o .answer) o p h g i }
+-- where every state that can be reached has a least schedule
+module _ (S : System) (least : (x : S .State) → Reached S x → (u : List ℕ) × Least S x u) where
+  before-total : (x y : S .State) → Reached S x → Reached S y → SlotBefore S x y ⊎ ((x ≡ y) ⊎ SlotBefore S y x)
+  before-total x y h k =
+      let u = least x h in
+      let v = least y k in
+      which (u .0) (v .0) (u .1) (v .1) (sooner-total (u .0) (v .0))
+    where
+      which :
+          (u v : List ℕ) → Least S x u → Least S y v → Sooner u v ⊎ ((u ≡ v) ⊎ Sooner v u) →
+          SlotBefore S x y ⊎ ((x ≡ y) ⊎ SlotBefore S y x)
+      which u v a b (inl k) = inl (ways-before S x y u v a b k)
+      which u v a b (inr (inl e)) = inr (inl (leads-unique S u x y (a .leads) (subst (λ w. LeadsTo S w y) (sym e) (b .leads))))
+      which u v a b (inr (inr k)) = inr (inr (ways-before S y x v u b a k))
+
+  follows-equal : (seen l m : List (S .State)) → Follows S seen l → Follows S seen m → length l ≡ length m → l ≡ m
+  follows-equal seen [] [] f g e = refl
+  follows-equal seen [] (y ∷ m) f g e = absurd (omega arith)
+  follows-equal seen (x ∷ l) [] f g e = absurd (omega arith)
+  follows-equal seen (x ∷ l) (y ∷ m) f g e =
+      which (before-total x y (f .reached x (inl refl)) (g .reached y (inl refl)))
+      (λ d. follows-equal (seen ++ (x ∷ [])) l m (follows-tail S seen l x f) (follows-tail S seen m x (subst (λ z. Follows S seen (z ∷ m)) (sym d) g)) (omega arith))
+    where
+      which : SlotBefore S x y ⊎ ((x ≡ y) ⊎ SlotBefore S y x) → (x ≡ y → l ≡ m) → (x ∷ l) ≡ (y ∷ m)
+      which (inl b) again = absurd (not-before S seen l m x y f g b)
+      which (inr (inl d)) again = ap₂ {C = List (S .State)} _∷_ d (again d)
+      which (inr (inr b)) again = absurd (not-before S seen m l y x g f b)
+
+  slots-unique : (n : ℕ) (l m : List (S .State)) → HoldsFirst S n l → HoldsFirst S n m → l ≡ m
+  slots-unique n l m h k = follows-equal [] l m (first-follows S n l h) (first-follows S n m k) (h .number ∙ sym (k .number))
+
+  outcomes-equal : (N : ℕ) (o p : Outcome (S .State)) → Means S N o → Means S N p → o ≡ p
+  outcomes-equal N o p h k =
+      let a = answer-unique S N (o .answer) (p .answer) o p h k in
+      let g : MeansAt S N (o .answer) p = subst (λ b. MeansAt S N b p) (sym a) k in
+      let slots =
+      slots-unique (counted (o .answer)) (o .slots) (p .slots) (held-first S N (o .answer) o h) (held-first S N (o .answer) p g) in
+      let links =
+      links-unique S (o .slots) (held-first S N (o .answer) o h .ordered) (o .links) (p .links) (linked-of S N (o .answer) o h)
+      (subst (λ l. Linked S l (p .links)) (sym slots) (linked-of S N (o .answer) p g)) in
+      λ i. record { answer = a i; slots = slots i; links = links i; schedule = schedule-unique S N (o .answer) o p h g i }
+
+pub one-outcome : (E : Searchable) (N : ℕ) (o p : Outcome (E .system .State)) → Means (E .system) N o → Means (E .system) N p → o ≡ p
+one-outcome E N o p h k = outcomes-equal (E .system) (λ x r. least-of E (r .way) x (r .leads)) N o p h k

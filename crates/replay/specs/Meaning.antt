@@ -4,7 +4,9 @@ use mathlib.Core.List.{List, [], _∷_}
 use Prim.Native.Nat.{ℕ}
 use lib.ListN.{getD}
 use Rattle.reach.specs.Replay as reach
+use Rattle.reach.specs.ReplayLaws.{one-replay, schedule-reaches}
 use Rattle.reach.specs.Meaning.{IsReachable, Outcome}
+use Rattle.reach.specs.Words.{refusal-words}
 use Rattle.rules.specs.State.{State}
 use Rattle.rules.specs.Job.{Job}
 use Rattle.rules.specs.File.{Decoded, accepted, refused, decode}
@@ -13,9 +15,6 @@ use Rattle.replay.specs.declared.Answer.{Answer}
 use Rattle.replay.specs.declared.Answer.the-variants.{Refused, Reaches, FallsShort, Stuck}
 
 -- each case of the answer with its number and values
-abbrev pub refusal-words : (number offset : ℕ) → List ℕ
-refusal-words number offset = 0 ∷ number ∷ offset ∷ 0 ∷ []
-
 abbrev pub replayed-words : reach.Replayed → List ℕ
 replayed-words reach.reaches = 1 ∷ 0 ∷ 0 ∷ 0 ∷ []
 replayed-words reach.falls-short = 2 ∷ 0 ∷ 0 ∷ 0 ∷ []
@@ -28,37 +27,37 @@ words FallsShort = replayed-words reach.falls-short
 words (Stuck i) = replayed-words (reach.stuck i)
 
 -- "stuck at i", else "reaches" or "falls short" by the state at the end
-pub record MeansFor (j : Job) (schedule : List ℕ) (ws : List ℕ) : Type 0 where
+pub record ReplayFor (j : Job) (schedule : List ℕ) (ws : List ℕ) : Type 0 where
   pub replayed : reach.Replayed
-  pub means : reach.ReplayMeans (machine j) schedule replayed
+  pub means : reach.ReplaysTo (machine j) schedule replayed
   pub answer : ws ≡ replayed-words replayed
 
 -- "Replay and fence check refuse by 1 to 6."
-abbrev pub MeansOf : Decoded → List ℕ → List ℕ → Type 0
-MeansOf (accepted j) schedule ws = MeansFor j schedule ws
-MeansOf (refused number offset) schedule ws = ws ≡ refusal-words number offset
+abbrev pub ReplayOf : Decoded → List ℕ → List ℕ → Type 0
+ReplayOf (accepted j) schedule ws = ReplayFor j schedule ws
+ReplayOf (refused number offset) schedule ws = ws ≡ refusal-words number offset
 
 -- the whole promise: job, schedule, answer
-abbrev pub ReplayMeans : List ℕ → List ℕ → List ℕ → Type 0
-ReplayMeans bytes schedule ws = MeansOf (decode bytes) schedule ws
+abbrev pub ReplayPromise : List ℕ → List ℕ → List ℕ → Type 0
+ReplayPromise bytes schedule ws = ReplayOf (decode bytes) schedule ws
 
 -- any two answers that the promise allows are equal
-pub replay-once : (bytes schedule ws vs : List ℕ) → ReplayMeans bytes schedule ws → ReplayMeans bytes schedule vs → ws ≡ vs
+pub replay-once : (bytes schedule ws vs : List ℕ) → ReplayPromise bytes schedule ws → ReplayPromise bytes schedule vs → ws ≡ vs
 replay-once bytes schedule ws vs h k = which (decode bytes) h k
   where
-    which : (d : Decoded) → MeansOf d schedule ws → MeansOf d schedule vs → ws ≡ vs
+    which : (d : Decoded) → ReplayOf d schedule ws → ReplayOf d schedule vs → ws ≡ vs
     which (accepted j) h k =
-        h .answer ∙ ap replayed-words (reach.one-replay (machine j) schedule (h .replayed) (k .replayed) (h .means) (k .means)) ∙ sym (k .answer)
+        h .answer ∙ ap replayed-words (one-replay (machine j) schedule (h .replayed) (k .replayed) (h .means) (k .means)) ∙ sym (k .answer)
     which (refused number offset) h k = h ∙ sym k
 
 -- the schedule that search gives replays to "reaches"
 pub found-reaches :
     (bytes : List ℕ) (j : Job) → decode bytes ≡ accepted j → (N d n : ℕ) (o : Outcome State) → IsReachable (machine j) N d n o →
-    (ws : List ℕ) → ReplayMeans bytes (o .schedule) ws → ws ≡ replayed-words reach.reaches
+    (ws : List ℕ) → ReplayPromise bytes (o .schedule) ws → ws ≡ replayed-words reach.reaches
 found-reaches bytes j e N d n o h ws r =
     replay-once bytes (o .schedule) ws (replayed-words reach.reaches) r
-    (subst (λ z. MeansOf z (o .schedule) (replayed-words reach.reaches)) (sym e)
-    (record { replayed = reach.reaches; means = reach.found-replays (machine j) N d n o h; answer = refl }))
+    (subst (λ z. ReplayOf z (o .schedule) (replayed-words reach.reaches)) (sym e)
+    (record { replayed = reach.reaches; means = schedule-reaches (machine j) N d n o h; answer = refl }))
 
 -- The words tell the answers apart: from the words back to the case.
 case-of : List ℕ → Answer

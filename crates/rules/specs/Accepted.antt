@@ -2,7 +2,7 @@
 use mathlib.Core.Path.{_≡_, refl, ap, subst}
 use mathlib.Core.Logic.{_↔_}
 use mathlib.Core.Bool.{Bool, true, false, cond, _&&_}
-use mathlib.Core.List.{List, [], _∷_}
+use mathlib.Core.List.{List, []}
 use mathlib.Core.Option.{Option, none, some}
 use Prim.Native.Nat.{ℕ, zero, suc, _+_, _≤_, _<_}
 use native.Mathlib.Omega.{arith}
@@ -10,13 +10,13 @@ use lib.Dec.{T, eqb, leb, leb→le, ltb→lt}
 use lib.ListN.{length, getD}
 use Rattle.reach.specs.Lists.{All}
 use Rattle.reach.specs.ListLaws.{all-imp, all-getD}
-use Rattle.rules.specs.Limits.{values, longest-thread}
+use Rattle.rules.specs.Limits.{values, byte-values, longest-thread, length-size, item-size}
 use Rattle.rules.specs.Job.{Job}
 use Rattle.rules.specs.Step.{given}
 use Rattle.rules.specs.Tests.{both, both-iff}
-use Rattle.rules.specs.File.{Read, got, fault, Reader, after, _>>=_, done, times, judged, byte, item, field, in-range, capacity-of}
+use Rattle.rules.specs.File.{Read, got, fault, Reader, read-on, _>>=_, done, times, judged, byte, item, field, in-range, capacity-of}
 use Rattle.rules.specs.File.{register-ok, zero-ok, instruction-of, instruction, thread, clause-of, clause, ended, fields}
-use Rattle.rules.specs.File.{length-ok, Decoded, accepted, refused, decoded, decode}
+use Rattle.rules.specs.File.{length-ok, Decoded, accepted, refused, decoded, decode, held-job, job-of}
 use Rattle.rules.specs.Sound.{InstrIn, ClauseIn, CapacityIn, JobIn}
 use Rattle.rules.specs.declared.Model.{Model}
 use Rattle.rules.specs.declared.Model.the-variants.{Sc, Tso, Pso}
@@ -53,10 +53,10 @@ module _ {A : Type 0} {P : A → Type 0} where
 
   then-gives : {B : Type 0} {Q : B → Type 0} {r : Reader A} {f : A → Reader B} →
       Gives P r → ((a : A) → P a → Gives Q (f a)) → Gives Q (r >>= f)
-  unfolding _>>=_ after
+  unfolding _>>=_ read-on
   then-gives {B} {Q} {r} {f} h k at = go (r at) (h at)
     where
-      go : (x : Read A) → IfGot P x → IfGot Q (after x f)
+      go : (x : Read A) → IfGot P x → IfGot Q (read-on x f)
       go x (of-fault n) = of-fault n
       go x (of-got {a} {next} p) = k a p next
 
@@ -125,28 +125,32 @@ capacity-in Sc k = simp row (omega tests)
 capacity-in Tso k = simp row (omega tests)
 capacity-in Pso k = simp row (omega tests)
 
-instruction-in : (vars n a b c : ℕ) → c < values → (op : ℕ) → IfSome (InstrIn vars n) (instruction-of vars n op a b c)
+instruction-in : (vars n a b c : ℕ) → c < byte-values → (op : ℕ) → IfSome (InstrIn vars n) (instruction-of vars n op a b c)
 unfolding instruction-of register-ok zero-ok
 instruction-in vars n a b c h = by-rows 10 _ (simp row (omega tests))
 
-clause-in : (vars : ℕ) (threads : List (List Instr)) (a b c : ℕ) → c < values →
-    (kind : ℕ) → IfSome (ClauseIn vars threads) (clause-of vars threads kind a b c)
+clause-in : (vars : ℕ) (threads : List (List Instr)) (a b c : ℕ) → c < byte-values →
+    (kind : ℕ) → IfSome (ClauseIn vars threads) (clause-of vars (length threads) (length (getD threads a [])) kind a b c)
 unfolding clause-of register-ok zero-ok
 clause-in vars threads a b c h = by-rows 4 _ (simp row (omega tests))
+
+-- every byte is a value
+value-in : (k : ℕ) → k < byte-values → IfSome (λ x. x < values) (some k)
+value-in k h = of-some {a = k} (omega arith)
 
 -- JobIn's two demands on a thread, as one
 abbrev ThreadIn : ℕ → List Instr → Type 0
 ThreadIn vars code = (length code ≤ longest-thread) × All (InstrIn vars (length code)) code
 
 -- The file, field by field.
-module _ (bytes : List ℕ) (small : All (λ k. k < values) bytes) where
+module _ (bytes : List ℕ) (small : All (λ k. k < byte-values) bytes) where
   -- also past the end, where 0 stands for a byte
-  byte-in : (at : ℕ) → byte bytes at < values
+  byte-in : (at : ℕ) → byte bytes at < byte-values
   unfolding byte
-  byte-in at = all-getD (λ k. k < values) bytes at 0 small (omega arith)
+  byte-in at = all-getD (λ k. k < byte-values) bytes at 0 small (omega arith)
 
   field-gives : {A : Type 0} {P : A → Type 0} (number : ℕ) {value : ℕ → Option A} →
-      Listed number → ((k : ℕ) → k < values → IfSome P (value k)) → Gives P (field bytes number value)
+      Listed number → ((k : ℕ) → k < byte-values → IfSome P (value k)) → Gives P (field bytes number value)
   unfolding field
   field-gives number n h = item-gives bytes 1 number n λ at. h (byte bytes at) (byte-in at)
 
@@ -158,7 +162,7 @@ module _ (bytes : List ℕ) (small : All (λ k. k < values) bytes) where
   thread-gives vars =
       then-gives (range-gives 4 _ _ (listed 4 tt)) λ n most.
       gives-map (λ code h. (omega arith, rw (h .0) (h .1)))
-      (times-gives n (item-gives bytes 4 4 (listed 4 tt) λ at. instruction-in vars n _ _ _ (byte-in (at + 3)) (byte bytes at)))
+      (times-gives n (item-gives bytes item-size 4 (listed 4 tt) λ at. instruction-in vars n _ _ _ (byte-in (at + 3)) (byte bytes at)))
 
   fields-give : Gives JobIn (fields bytes)
   unfolding fields clause
@@ -168,12 +172,12 @@ module _ (bytes : List ℕ) (small : All (λ k. k < values) bytes) where
       then-gives (field-gives 3 (listed 3 tt) λ k h. capacity-in model k) λ capacity capacity-is.
       then-gives (range-gives 3 _ _ (listed 3 tt)) λ count count-is.
       then-gives (range-gives 3 _ _ (listed 3 tt)) λ vars vars-is.
-      then-gives (times-gives vars (field-gives 6 (listed 6 tt) λ k h. of-some h)) λ initial initial-is.
+      then-gives (times-gives vars (field-gives 6 (listed 6 tt) value-in)) λ initial initial-is.
       then-gives (times-gives count (thread-gives vars)) λ threads threads-are.
       then-gives (field-gives 5 (listed 5 tt) λ k h. anything _) λ flag _.
       then-gives (range-gives 5 _ _ (listed 5 tt)) λ K K-is.
       then-gives
-      (times-gives K (item-gives bytes 4 5 (listed 5 tt) λ at. clause-in vars threads _ _ _ (byte-in (at + 3)) (byte bytes at)))
+      (times-gives K (item-gives bytes item-size 5 (listed 5 tt) λ at. clause-in vars threads _ _ _ (byte-in (at + 3)) (byte bytes at)))
       λ clauses clauses-are.
       ended-gives bytes _
       (record {
@@ -200,13 +204,18 @@ decoded-shows false x h = listed 1 tt
 decoded-shows true x (of-fault n) = n
 decoded-shows true x (of-got p) = p
 
-module _ (bytes : List ℕ) (small : All (λ k. k < values) bytes) where
+module _ (bytes : List ℕ) (small : All (λ k. k < byte-values) bytes) where
   shows : Shows (decode bytes)
   unfolding decode
-  shows = decoded-shows (length-ok bytes) (fields bytes 2) (fields-give bytes small 2)
+  shows = decoded-shows (length-ok bytes) (fields bytes length-size) (fields-give bytes small length-size)
 
   pub accepted-in : (j : Job) → decode bytes ≡ accepted j → JobIn j
   accepted-in j e = subst Shows e shows
 
   pub refused-by : (number offset : ℕ) → decode bytes ≡ refused number offset → Listed number
   refused-by number offset e = subst Shows e shows
+
+-- accepted bytes hold one job, and `job-of` names it
+pub job-of-accepted : (bytes : List ℕ) (j : Job) → decode bytes ≡ accepted j → job-of bytes ≡ j
+unfolding job-of held-job
+job-of-accepted bytes j e = ap held-job e

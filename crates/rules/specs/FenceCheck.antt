@@ -8,30 +8,33 @@ use Prim.Native.Nat.{ℕ, zero, suc, _≤_, _<_}
 use native.Mathlib.Omega.{arith}
 use native.Mathlib.Decide.{decLt}
 use lib.Dec.{T, eqb, eqb→eq, eqb-refl}
-use lib.ListN.{length, getElem?}
+use lib.ListN.{length, getD, getElem?}
 use Rattle.reach.specs.Lists.{_∈_}
-use Rattle.reach.specs.ListLaws.{in-left, in-right, at-in, in-at, at-below, no-longer}
+use Rattle.reach.specs.ListLaws.{in-left, in-right, at-in, in-at, at-below, no-longer, at-past}
 use Rattle.reach.specs.System.{System, andThen, run}
 use Rattle.reach.specs.Order.{Earlier}
 use Rattle.reach.specs.OrderLaws.{earlier-total}
 use Rattle.reach.specs.RunLaws.{none-is-not-some, andThen-some}
-use Rattle.reach.specs.Meaning.{Answer, reachable, unreachable, unknown, Outcome, MeansAt}
+use Rattle.reach.specs.Meaning.{Answer, reachable, unreachable, unknown, Outcome, MeansAt, Outnumber}
+use Rattle.reach.specs.Searchable.{Searchable}
 use Rattle.reach.specs.Rows.{find}
 use Rattle.reach.specs.Found.{find-means}
-use Rattle.reach.specs.Promise.{Outnumber, unknown-exactly, never}
-use Rattle.rules.specs.Job.{Job}
+use Rattle.reach.specs.Promise.{unknown-exactly, never}
+use Rattle.rules.specs.Kinds.{control-of, role-of}
 use Rattle.rules.specs.Step.{given}
-use Rattle.rules.specs.Tests.{three, of-three}
-use Rattle.rules.specs.Fences.{onward, onward-at, successors, is-store, is-load, is-fence, Move, Walk, Open, Fenced, fenced, open-at, FenceMeans}
+use Rattle.rules.specs.Tests.{three, of-three, given-some, given-none}
+use Rattle.rules.specs.Fences.{onward-at, successors, role-at, Move, Walk, OpenIn, Open, Checked, fenced, open-at, ChecksTo}
+use Rattle.rules.specs.Onward.{few-onward}
 use Rattle.rules.specs.declared.Instr.{Instr}
-use Rattle.rules.specs.declared.Instr.the-variants.{Set, Add, Load, Store, Fence, Xchg, Jeq, Jmp}
+use Rattle.rules.specs.declared.Role.{Role}
+use Rattle.rules.specs.declared.Role.the-variants.{Stores, Loads, Fences, Other}
 
 -- any two answers that the meaning allows are equal
-pub one-fence-answer : (j : Job) (a b : Fenced) → FenceMeans j a → FenceMeans j b → a ≡ b
-one-fence-answer j fenced fenced h k = refl
-one-fence-answer j fenced (open-at t s l) h k = absurd (h t s l (k .0))
-one-fence-answer j (open-at t s l) fenced h k = absurd (k t s l (h .0))
-one-fence-answer j (open-at t s l) (open-at t′ s′ l′) h k = which (earlier-total (t ∷ s ∷ l ∷ []) (t′ ∷ s′ ∷ l′ ∷ []) refl)
+pub one-fence-answer : (threads : List (List Instr)) (a b : Checked) → ChecksTo threads a → ChecksTo threads b → a ≡ b
+one-fence-answer threads fenced fenced h k = refl
+one-fence-answer threads fenced (open-at t s l) h k = absurd (h t s l (k .0))
+one-fence-answer threads (open-at t s l) fenced h k = absurd (k t s l (h .0))
+one-fence-answer threads (open-at t s l) (open-at t′ s′ l′) h k = which (earlier-total (t ∷ s ∷ l ∷ []) (t′ ∷ s′ ∷ l′ ∷ []) refl)
   where
     which :
         Earlier (t ∷ s ∷ l ∷ []) (t′ ∷ s′ ∷ l′ ∷ [])
@@ -43,67 +46,79 @@ one-fence-answer j (open-at t s l) (open-at t′ s′ l′) h k = which (earlier
 
 -- Walks as runs: the state is a place, the steps are its successors by number, and none leads on from a FENCE or XCHG.
 
-at-past : {A : Type 0} (l : List A) (i : ℕ) → length l ≤ i → getElem? l i ≡ none
-at-past [] i h = refl
-at-past (x ∷ l) zero h = absurd (omega arith)
-at-past (x ∷ l) (suc i) h = at-past l i (omega arith)
+-- a test for roles, by a number for each
+unfoldable pub role-number : Role → ℕ
+role-number Stores = 0
+role-number Loads = 1
+role-number Fences = 2
+role-number Other = 3
 
-few-onward : (p : ℕ) (o : Option Instr) → length (onward-at p o) ≤ 2
-unfolding onward-at onward
-few-onward p none = omega arith
-few-onward p (some (Set r k)) = omega arith
-few-onward p (some (Add r k)) = omega arith
-few-onward p (some (Load r v)) = omega arith
-few-onward p (some (Store a v)) = omega arith
-few-onward p (some Fence) = omega arith
-few-onward p (some (Xchg r v)) = omega arith
-few-onward p (some (Jeq r q k)) = omega arith
-few-onward p (some (Jmp q)) = omega arith
+unfoldable pub same-role : Role → Role → Bool
+same-role r q = eqb (role-number r) (role-number q)
+
+role-numbered : ℕ → Role
+role-numbered k = getD (Stores ∷ Loads ∷ Fences ∷ []) k Other
+
+role-back : (r : Role) → role-numbered (role-number r) ≡ r
+unfolding role-number role-numbered
+role-back Stores = refl
+role-back Loads = refl
+role-back Fences = refl
+role-back Other = refl
+
+pub same-role-equal : (r q : Role) → T (same-role r q) → r ≡ q
+unfolding same-role
+same-role-equal r q h = sym (role-back r) ∙ ap role-numbered (eqb→eq _ _ h) ∙ role-back q
+
+pub equal-same-role : (r q : Role) → r ≡ q → T (same-role r q)
+unfolding same-role
+equal-same-role r q e = subst (λ z. T (same-role r z)) e (eqb-refl (role-number r))
 
 unfoldable pub move : List Instr → ℕ → ℕ → Option ℕ
-move code k p = cond (is-fence (getElem? code p)) none (getElem? (successors code p) k)
+move code k p = cond (same-role (role-at code p) Fences) none (getElem? (successors code p) k)
+
+few-at : (p : ℕ) (o : Option Instr) → length (onward-at p o) ≤ 2
+unfolding onward-at
+few-at p none = omega arith
+few-at p (some i) = few-onward p (control-of i)
 
 pub move-beyond : (code : List Instr) (k p : ℕ) → 2 ≤ k → move code k p ≡ none
 unfolding move successors
-move-beyond code k p h = which (is-fence (getElem? code p))
+move-beyond code k p h = which (same-role (role-at code p) Fences)
   where
     which : (b : Bool) → cond b none (getElem? (onward-at p (getElem? code p)) k) ≡ none
     which true = refl
-    which false = at-past (onward-at p (getElem? code p)) k (omega (arith, few-onward p (getElem? code p)))
+    which false = at-past (onward-at p (getElem? code p)) k (omega (arith, few-at p (getElem? code p)))
 
 -- a move that can be made: not from a fence, and to a successor
-move-some : (code : List Instr) (k p q : ℕ) → move code k p ≡ some q → (¬ (T (is-fence (getElem? code p)))) × Move code p q
+move-some : (code : List Instr) (k p q : ℕ) → move code k p ≡ some q → (¬ (role-at code p ≡ Fences)) × Move code p q
 unfolding move
-move-some code k p q e = which (is-fence (getElem? code p)) e
+move-some code k p q e = which (same-role (role-at code p) Fences) (equal-same-role (role-at code p) Fences) e
   where
-    which : (b : Bool) → cond b none (getElem? (successors code p) k) ≡ some q → (¬ (T b)) × Move code p q
-    which true e = absurd (none-is-not-some e)
-    which false e = (λ h. h, at-in (successors code p) k q e)
+    which :
+        (b : Bool) → (role-at code p ≡ Fences → T b) → cond b none (getElem? (successors code p) k) ≡ some q →
+        (¬ (role-at code p ≡ Fences)) × Move code p q
+    which true f e = absurd (none-is-not-some e)
+    which false f e = (f, at-in (successors code p) k q e)
 
-some-move : (code : List Instr) (p q : ℕ) → ¬ (T (is-fence (getElem? code p))) → Move code p q → (k : ℕ) × (move code k p ≡ some q)
+some-move : (code : List Instr) (p q : ℕ) → ¬ (role-at code p ≡ Fences) → Move code p q → (k : ℕ) × (move code k p ≡ some q)
 unfolding move
-some-move code p q n h = which (is-fence (getElem? code p)) n
+some-move code p q n h = which (same-role (role-at code p) Fences) (same-role-equal (role-at code p) Fences)
   where
-    which : (b : Bool) → ¬ (T b) → (k : ℕ) × (cond b none (getElem? (successors code p) k) ≡ some q)
-    which true m = absurd (m tt)
-    which false m = in-at (successors code p) q h
+    which :
+        (b : Bool) → (T b → role-at code p ≡ Fences) → (k : ℕ) × (cond b none (getElem? (successors code p) k) ≡ some q)
+    which true f = absurd (n (f tt))
+    which false f = in-at (successors code p) q h
 
 abbrev pub walks : List Instr → (s l : ℕ) → System
-walks code s l =
-    record {
-      State = ℕ;
-      same = eqb;
-      same-equal = eqb→eq;
-      same-refl = eqb-refl;
-      start = s;
-      bound = 2;
-      next = move code;
-      beyond = move-beyond code;
-      goal = λ p. eqb p l;
-    }
+walks code s l = record { State = ℕ; start = s; next = move code; goal = λ p. eqb p l }
+
+abbrev searched : List Instr → (s l : ℕ) → Searchable
+searched code s l =
+    record { system = walks code s l; same = eqb; same-equal = eqb→eq; same-refl = eqb-refl; bound = 2; beyond = move-beyond code }
 
 module _ (code : List Instr) (s l : ℕ) where
-  walk-run : (between : List ℕ) (p q : ℕ) → ¬ (T (is-fence (getElem? code p))) → Walk code p between q → (w : List ℕ) × (run (walks code s l) w p ≡ some q)
+  walk-run : (between : List ℕ) (p q : ℕ) → ¬ (role-at code p ≡ Fences) → Walk code p between q → (w : List ℕ) × (run (walks code s l) w p ≡ some q)
   walk-run [] p q n h = let k = some-move code p q n h in (k .0 ∷ [], rw (k .1))
   walk-run (m ∷ between) p q n h =
       let k = some-move code p m n (h .0) in
@@ -164,7 +179,7 @@ module _ (code : List Instr) (s l : ℕ) where
 
   -- is there a walk from s to l? As many slots as landings are enough.
   unfoldable pub leads : Bool
-  leads = found (find (walks code s l) (length landings) .answer)
+  leads = found (find (searched code s l) (length landings) .answer)
 
   some-landing : 1 ≤ length landings
   unfolding landings
@@ -173,8 +188,8 @@ module _ (code : List Instr) (s l : ℕ) where
   leads-run : T leads → (w : List ℕ) × (run (walks code s l) w s ≡ some l)
   unfolding leads found
   leads-run h =
-      which (find (walks code s l) (length landings) .answer) (find (walks code s l) (length landings))
-      (find-means (walks code s l) (length landings) some-landing) h
+      which (find (searched code s l) (length landings) .answer) (find (searched code s l) (length landings))
+      (find-means (searched code s l) (length landings) some-landing) h
     where
       which : (a : Answer) (o : Outcome ℕ) → MeansAt (walks code s l) (length landings) a o → T (found a) → (w : List ℕ) × (run (walks code s l) w s ≡ some l)
       which (reachable d n) o m h =
@@ -196,19 +211,19 @@ module _ (code : List Instr) (s l : ℕ) where
   run-leads : (w : List ℕ) → run (walks code s l) w s ≡ some l → T leads
   unfolding leads found
   run-leads w e =
-      which (find (walks code s l) (length landings) .answer) refl (find-means (walks code s l) (length landings) some-landing)
+      which (find (searched code s l) (length landings) .answer) refl (find-means (searched code s l) (length landings) some-landing)
     where
       which :
-          (a : Answer) → find (walks code s l) (length landings) .answer ≡ a →
-          MeansAt (walks code s l) (length landings) a (find (walks code s l) (length landings)) → T (found a)
+          (a : Answer) → find (searched code s l) (length landings) .answer ≡ a →
+          MeansAt (walks code s l) (length landings) a (find (searched code s l) (length landings)) → T (found a)
       which (reachable d n) f m = tt
       which (unreachable n) f m =
-          absurd (never (walks code s l) (length landings) n (find (walks code s l) (length landings)) m w l e (eqb-refl l))
+          absurd (never (walks code s l) (length landings) n (find (searched code s l) (length landings)) m w l e (eqb-refl l))
       which (unknown n) f m =
           absurd
           (enough
-          (unknown-exactly (walks code s l) (length landings) (find (walks code s l) (length landings))
-          (find-means (walks code s l) (length landings) some-landing) .0 (f ∙ ap {B = Answer} unknown (m .gives))))
+          (unknown-exactly (searched code s l) (length landings) (find (searched code s l) (length landings))
+          (find-means (searched code s l) (length landings) some-landing) .0 (f ∙ ap {B = Answer} unknown (m .gives))))
 
 -- The least below a bound: the first number that gives something.
 
@@ -248,154 +263,136 @@ module _ {A : Type 0} (f : ℕ → Option A) where
 
 -- the test of one triple
 unfoldable pub open-test : List Instr → (s l : ℕ) → Bool
-open-test code s l = is-store (getElem? code s) && is-load (getElem? code l) && leads code s l
+open-test code s l = same-role (role-at code s) Stores && same-role (role-at code l) Loads && leads code s l
 
 -- the least open load of a store, the least open store of a thread, the least thread that has one
-unfoldable pub open-loads : List Instr → (t s : ℕ) → Option Fenced
+unfoldable pub open-loads : List Instr → (t s : ℕ) → Option Checked
 open-loads code t s = first-below (length code) λ l. given (open-test code s l) (open-at t s l)
 
-unfoldable pub open-stores : ℕ → List Instr → Option Fenced
+unfoldable pub open-stores : ℕ → List Instr → Option Checked
 open-stores t code = first-below (length code) λ s. open-loads code t s
 
-unfoldable pub open-threads : Job → Option Fenced
-open-threads j = first-below (length (j .threads)) λ t. andThen (getElem? (j .threads) t) (open-stores t)
+unfoldable pub open-threads : List (List Instr) → Option Checked
+open-threads threads = first-below (length threads) λ t. andThen (getElem? threads t) (open-stores t)
 
-unfoldable pub fence-answer : Option Fenced → Fenced
+unfoldable pub fence-answer : Option Checked → Checked
 fence-answer none = fenced
 fence-answer (some a) = a
 
-unfoldable pub fence-check : Job → Fenced
-fence-check j = fence-answer (open-threads j)
+unfoldable pub fence-check : List (List Instr) → Checked
+fence-check threads = fence-answer (open-threads threads)
 
 -- The test is right.
 
-store-is-no-fence : (o : Option Instr) → T (is-store o) → ¬ (T (is-fence o))
-unfolding is-store is-fence
-store-is-no-fence none h k = absurd h
-store-is-no-fence (some (Set r v)) h k = absurd h
-store-is-no-fence (some (Add r v)) h k = absurd h
-store-is-no-fence (some (Load r v)) h k = absurd h
-store-is-no-fence (some (Store a v)) h k = absurd k
-store-is-no-fence (some Fence) h k = absurd h
-store-is-no-fence (some (Xchg r v)) h k = absurd h
-store-is-no-fence (some (Jeq r q v)) h k = absurd h
-store-is-no-fence (some (Jmp q)) h k = absurd h
+pub store-is-no-fence : {r : Role} → r ≡ Stores → ¬ (r ≡ Fences)
+store-is-no-fence e f = let z : _≡_ {A = ℕ} 0 1 = cc in omega arith
 
-store-is-no-load : (o : Option Instr) → T (is-store o) → ¬ (T (is-load o))
-unfolding is-store is-load
-store-is-no-load none h k = absurd h
-store-is-no-load (some (Set r v)) h k = absurd h
-store-is-no-load (some (Add r v)) h k = absurd h
-store-is-no-load (some (Load r v)) h k = absurd h
-store-is-no-load (some (Store a v)) h k = absurd k
-store-is-no-load (some Fence) h k = absurd h
-store-is-no-load (some (Xchg r v)) h k = absurd h
-store-is-no-load (some (Jeq r q v)) h k = absurd h
-store-is-no-load (some (Jmp q)) h k = absurd h
+store-is-no-load : {r : Role} → r ≡ Stores → ¬ (r ≡ Loads)
+store-is-no-load e f = let z : _≡_ {A = ℕ} 0 1 = cc in omega arith
 
-module _ (j : Job) (t : ℕ) (code : List Instr) (is : getElem? (j .threads) t ≡ some code) where
-  test-open : (s l : ℕ) → T (open-test code s l) → Open j t s l
+pub role-there : (code : List Instr) (p : ℕ) (i : Instr) → getElem? code p ≡ some i → role-at code p ≡ role-of i
+unfolding role-at
+role-there code p i e = rw (e, role-at)
+
+-- past the end of a thread nothing plays a role
+pub role-inside : (code : List Instr) (p : ℕ) → ¬ (role-at code p ≡ Other) → p < length code
+unfolding role-at
+role-inside code p n = which (getElem? code p) refl n
+  where
+    which : (o : Option Instr) → getElem? code p ≡ o → ¬ (elim o [ none ↦ Other | some i ↦ role-of i ] ≡ Other) → p < length code
+    which none e n = absurd (n refl)
+    which (some i) e n = at-below code p i e
+
+module _ {code : List Instr} {s l : ℕ} (o : OpenIn code s l) where
+  pub store-inside : s < length code
+  store-inside = role-inside code s (λ e. let d = o .store in let z : _≡_ {A = ℕ} 0 1 = cc in omega arith)
+
+  pub load-inside : l < length code
+  load-inside = role-inside code l (λ e. let d = o .load in let z : _≡_ {A = ℕ} 0 1 = cc in omega arith)
+
+-- an open pair, said of its thread's instructions
+pub open-in : (threads : List (List Instr)) (t : ℕ) (code : List Instr) → getElem? threads t ≡ some code
+    → (s l : ℕ) → Open threads t s l → OpenIn code s l
+open-in threads t code is s l o =
+    let e : o .code ≡ code = (let f : some (o .code) ≡ some code = sym (o .thread-is) ∙ is in cc) in
+    subst (λ c. OpenIn c s l) e (o .pair)
+
+module _ (code : List Instr) (s l : ℕ) where
+  test-open : open-test code s l ≡ true → OpenIn code s l
   unfolding open-test
-  test-open s l h =
-      let p = three (is-store (getElem? code s)) (is-load (getElem? code l)) (leads code s l) h in
+  test-open h =
+      let p = three (same-role (role-at code s) Stores) (same-role (role-at code l) Loads) (leads code s l) (rw h tt) in
+      let st = same-role-equal (role-at code s) Stores (p .0) in
+      let ld = same-role-equal (role-at code l) Loads (p .1) in
       let r = leads-run code s l (p .2) in
-      let w = walk (p .0) (p .1) (r .0) (r .1) in
-      record { code = code; thread-is = is; store = p .0; load = p .1; between = w .0; walk = w .1 }
+      let w = walk st ld (r .0) (r .1) in
+      record { store = st; load = ld; between = w .0; walk = w .1 }
     where
       -- a walk of no move would end at its own store
-      walk : T (is-store (getElem? code s)) → T (is-load (getElem? code l)) → (w : List ℕ) → run (walks code s l) w s ≡ some l → (between : List ℕ) × Walk code s between l
+      walk : role-at code s ≡ Stores → role-at code l ≡ Loads → (w : List ℕ) → run (walks code s l) w s ≡ some l → (between : List ℕ) × Walk code s between l
       walk st ld [] e =
           let d : s ≡ l = (let f : some s ≡ some l = e in cc) in
-          absurd (store-is-no-load (getElem? code s) st (subst (λ z. T (is-load (getElem? code z))) (sym d) ld))
+          absurd (store-is-no-load st (ap (role-at code) d ∙ ld))
       walk st ld (k ∷ w) e = run-walk code s l k w s l e
 
-  open-tests : (s l : ℕ) → Open j t s l → T (open-test code s l)
+  open-tests : OpenIn code s l → T (open-test code s l)
   unfolding open-test
-  open-tests s l o =
-      let e : o .code ≡ code = (let f : some (o .code) ≡ some code = sym (o .thread-is) ∙ is in cc) in
-      let st = subst (λ c. T (is-store (getElem? c s))) e (o .store) in
-      let ld = subst (λ c. T (is-load (getElem? c l))) e (o .load) in
-      let w = walk-run code s l (o .between) s l (store-is-no-fence (getElem? code s) st) (subst (λ c. Walk c s (o .between) l) e (o .walk)) in
-      of-three (is-store (getElem? code s)) (is-load (getElem? code l)) (leads code s l) st ld (run-leads code s l (w .0) (w .1))
+  open-tests o =
+      let w = walk-run code s l (o .between) s l (store-is-no-fence (o .store)) (o .walk) in
+      of-three (same-role (role-at code s) Stores) (same-role (role-at code l) Loads) (leads code s l)
+      (equal-same-role _ _ (o .store)) (equal-same-role _ _ (o .load)) (run-leads code s l (w .0) (w .1))
 
-given-none : {A : Type 0} (b : Bool) (a : A) → given b a ≡ none → ¬ (T b)
-given-none true a e h = none-is-not-some (sym e)
-given-none false a e h = h
-
-given-some : {A : Type 0} (b : Bool) (a c : A) → given b a ≡ some c → T b × (a ≡ c)
-given-some true a c e = (tt, cc)
-given-some false a c e = absurd (none-is-not-some e)
-
-pub load-inside : (code : List Instr) (l : ℕ) → T (is-load (getElem? code l)) → l < length code
-unfolding is-load
-load-inside code l h = which (getElem? code l) refl h
-  where
-    which : (o : Option Instr) → getElem? code l ≡ o → T (is-load o) → l < length code
-    which none e m = absurd m
-    which (some i) e m = at-below code l i e
-
-pub store-inside : (code : List Instr) (s : ℕ) → T (is-store (getElem? code s)) → s < length code
-unfolding is-store
-store-inside code s h = which (getElem? code s) refl h
-  where
-    which : (o : Option Instr) → getElem? code s ≡ o → T (is-store o) → s < length code
-    which none e m = absurd m
-    which (some i) e m = at-below code s i e
+  no-load : (t : ℕ) → given (open-test code s l) (open-at t s l) ≡ none → ¬ (OpenIn code s l)
+  no-load t e o = subst T (given-none (open-test code s l) (open-at t s l) e) (open-tests o)
 
 -- no open load, store or thread is missed
-module _ (j : Job) where
-  same-code : (t s l : ℕ) (code : List Instr) → getElem? (j .threads) t ≡ some code → (o : Open j t s l) → o .code ≡ code
-  same-code t s l code is o = let f : some (o .code) ≡ some code = sym (o .thread-is) ∙ is in cc
-
-  no-load : (t : ℕ) (code : List Instr) → getElem? (j .threads) t ≡ some code → (s l : ℕ) → given (open-test code s l) (open-at t s l) ≡ none → ¬ (Open j t s l)
-  no-load t code is s l e o = given-none (open-test code s l) (open-at t s l) e (open-tests j t code is s l o)
-
-  no-loads : (t : ℕ) (code : List Instr) → getElem? (j .threads) t ≡ some code → (s : ℕ) → open-loads code t s ≡ none → (l : ℕ) → ¬ (Open j t s l)
+module _ (code : List Instr) (t : ℕ) where
+  no-loads : (s : ℕ) → open-loads code t s ≡ none → (l : ℕ) → ¬ (OpenIn code s l)
   unfolding open-loads
-  no-loads t code is s e l o =
-      let inside = load-inside code l (subst (λ c. T (is-load (getElem? c l))) (same-code t s l code is o) (o .load)) in
-      no-load t code is s l (first-none (λ l. given (open-test code s l) (open-at t s l)) (length code) e l inside) o
+  no-loads s e l o =
+      no-load code s l t (first-none (λ l. given (open-test code s l) (open-at t s l)) (length code) e l (load-inside o)) o
 
-  no-stores : (t : ℕ) (code : List Instr) → getElem? (j .threads) t ≡ some code → open-stores t code ≡ none → (s l : ℕ) → ¬ (Open j t s l)
+  no-stores : open-stores t code ≡ none → (s l : ℕ) → ¬ (OpenIn code s l)
   unfolding open-stores
-  no-stores t code is e s l o =
-      let inside = store-inside code s (subst (λ c. T (is-store (getElem? c s))) (same-code t s l code is o) (o .store)) in
-      no-loads t code is s (first-none (open-loads code t) (length code) e s inside) l o
+  no-stores e s l o = no-loads s (first-none (open-loads code t) (length code) e s (store-inside o)) l o
 
-  abbrev in-thread : ℕ → Option Fenced
-  in-thread t = andThen (getElem? (j .threads) t) (open-stores t)
+module _ (threads : List (List Instr)) where
+  abbrev in-thread : ℕ → Option Checked
+  in-thread t = andThen (getElem? threads t) (open-stores t)
 
-  no-threads : (t : ℕ) → in-thread t ≡ none → (s l : ℕ) → ¬ (Open j t s l)
-  no-threads t e s l o = no-stores t (o .code) (o .thread-is) (sym (ap (λ z. andThen z (open-stores t)) (o .thread-is)) ∙ e) s l o
+  no-threads : (t : ℕ) → in-thread t ≡ none → (s l : ℕ) → ¬ (Open threads t s l)
+  no-threads t e s l o =
+      no-stores (o .code) t (sym (ap (λ z. andThen z (open-stores t)) (o .thread-is)) ∙ e) s l (o .pair)
 
   -- a pair is the least if no thread before has one, no store before in its thread, and no load before of its store
   pub least-open :
-      (t s l : ℕ) → ((n : ℕ) → n < t → (s′ l′ : ℕ) → ¬ (Open j n s′ l′)) → ((n : ℕ) → n < s → (l′ : ℕ) → ¬ (Open j t n l′)) →
-      ((n : ℕ) → n < l → ¬ (Open j t s n)) →
-      (t′ s′ l′ : ℕ) → Open j t′ s′ l′ → ¬ (Earlier (t′ ∷ s′ ∷ l′ ∷ []) (t ∷ s ∷ l ∷ []))
+      (t s l : ℕ) → ((n : ℕ) → n < t → (s′ l′ : ℕ) → ¬ (Open threads n s′ l′)) →
+      ((n : ℕ) → n < s → (l′ : ℕ) → ¬ (Open threads t n l′)) →
+      ((n : ℕ) → n < l → ¬ (Open threads t s n)) →
+      (t′ s′ l′ : ℕ) → Open threads t′ s′ l′ → ¬ (Earlier (t′ ∷ s′ ∷ l′ ∷ []) (t ∷ s ∷ l ∷ []))
   least-open t s l f g h t′ s′ l′ o (inl k) = f t′ k s′ l′ o
-  least-open t s l f g h t′ s′ l′ o (inr (p, inl k)) = g s′ k l′ (subst (λ z. Open j z s′ l′) p o)
-  least-open t s l f g h t′ s′ l′ o (inr (p, inr (q, inl k))) = h l′ k (subst (λ z. Open j t z l′) q (subst (λ z. Open j z s′ l′) p o))
+  least-open t s l f g h t′ s′ l′ o (inr (p, inl k)) = g s′ k l′ (subst (λ z. Open threads z s′ l′) p o)
+  least-open t s l f g h t′ s′ l′ o (inr (p, inr (q, inl k))) =
+      h l′ k (subst (λ z. Open threads t z l′) q (subst (λ z. Open threads z s′ l′) p o))
   least-open t s l f g h t′ s′ l′ o (inr (p, inr (q, inr k))) = absurd (k .1)
 
-  pub fence-check-means : FenceMeans j (fence-check j)
+  pub fence-check-means : ChecksTo threads (fence-check threads)
   unfolding fence-check open-threads fence-answer open-stores open-loads
-  fence-check-means = which (first-below (length (j .threads)) in-thread) refl
+  fence-check-means = which (first-below (length threads) in-thread) refl
     where
-      nothing : first-below (length (j .threads)) in-thread ≡ none → (t s l : ℕ) → ¬ (Open j t s l)
-      nothing e t s l o =
-          no-threads t (first-none in-thread (length (j .threads)) e t (at-below (j .threads) t (o .code) (o .thread-is))) s l o
-
-      which : (o : Option Fenced) → first-below (length (j .threads)) in-thread ≡ o → FenceMeans j (fence-answer o)
-      which none e = nothing e
+      which : (o : Option Checked) → first-below (length threads) in-thread ≡ o → ChecksTo threads (fence-answer o)
+      which none e =
+          λ t s l o. no-threads t (first-none in-thread (length threads) e t (at-below threads t (o .code) (o .thread-is))) s l o
       which (some a) e =
-          let r = first-some in-thread (length (j .threads)) a e in
-          let c = andThen-some (getElem? (j .threads) (r .0)) (open-stores (r .0)) a (r .2) in
+          let r = first-some in-thread (length threads) a e in
+          let c = andThen-some (getElem? threads (r .0)) (open-stores (r .0)) a (r .2) in
           let p = first-some (open-loads (c .0) (r .0)) (length (c .0)) a (c .2) in
           let q = first-some (λ l. given (open-test (c .0) (p .0) l) (open-at (r .0) (p .0) l)) (length (c .0)) a (p .2) in
           let g = given-some (open-test (c .0) (p .0) (q .0)) (open-at (r .0) (p .0) (q .0)) a (q .2) in
-          subst (FenceMeans j) (g .1) (
-            test-open j (r .0) (c .0) (c .1) (p .0) (q .0) (g .0),
-            least-open (r .0) (p .0) (q .0) (λ n k. no-threads n (r .3 n k)) (λ n k. no-loads (r .0) (c .0) (c .1) n (p .3 n k))
-                (λ n k. no-load (r .0) (c .0) (c .1) (p .0) n (q .3 n k)),
+          let said = open-in threads (r .0) (c .0) (c .1) in
+          subst (ChecksTo threads) (g .1) (
+            record { code = c .0; thread-is = c .1; pair = test-open (c .0) (p .0) (q .0) (g .0) },
+            least-open (r .0) (p .0) (q .0) (λ n k. no-threads n (r .3 n k))
+                (λ n k l o. no-loads (c .0) (r .0) n (p .3 n k) l (said n l o))
+                (λ n k o. no-load (c .0) (p .0) n (r .0) (q .3 n k) (said (p .0) n o)),
           )

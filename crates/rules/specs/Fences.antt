@@ -1,70 +1,35 @@
 -- The fence check: 01, "Replay and fence check".
 use mathlib.Core.Path.{_≡_}
-use mathlib.Core.Bool.{Bool, true, false}
 use mathlib.Core.List.{List, [], _∷_}
 use mathlib.Core.Option.{Option, none, some}
 use Prim.Native.Nat.{ℕ, suc}
-use lib.Dec.{T}
 use lib.ListN.{getElem?}
 use Rattle.reach.specs.Lists.{_∈_}
 use Rattle.reach.specs.Order.{Earlier}
-use Rattle.rules.specs.Job.{Job}
+use Rattle.rules.specs.Kinds.{control-of, role-of}
 use Rattle.rules.specs.declared.Instr.{Instr}
-use Rattle.rules.specs.declared.Instr.the-variants.{Set, Add, Load, Store, Fence, Xchg, Jeq, Jmp}
+use Rattle.rules.specs.declared.Control.{Control}
+use Rattle.rules.specs.declared.Control.the-variants.{On, To, ToIf}
+use Rattle.rules.specs.declared.Role.{Role}
+use Rattle.rules.specs.declared.Role.the-variants.{Stores, Loads, Fences, Other}
 
 -- "successors of a place are the next one, p for JMP, both for JEQ"
-unfoldable pub onward : ℕ → Instr → List ℕ
-onward p (Set r k) = suc p ∷ []
-onward p (Add r k) = suc p ∷ []
-onward p (Load r v) = suc p ∷ []
-onward p (Store a v) = suc p ∷ []
-onward p Fence = suc p ∷ []
-onward p (Xchg r v) = suc p ∷ []
-onward p (Jeq r q k) = suc p ∷ q ∷ []
-onward p (Jmp q) = q ∷ []
+unfoldable pub onward : ℕ → Control → List ℕ
+onward p On = suc p ∷ []
+onward p (To q) = q ∷ []
+onward p (ToIf r k q) = suc p ∷ q ∷ []
 
 -- a place without an instruction, as place n, has no successors
 unfoldable pub onward-at : ℕ → Option Instr → List ℕ
 onward-at p none = []
-onward-at p (some i) = onward p i
+onward-at p (some i) = onward p (control-of i)
 
 unfoldable pub successors : List Instr → ℕ → List ℕ
 successors code p = onward-at p (getElem? code p)
 
--- "XCHG is neither store nor load here."
-unfoldable pub is-store : Option Instr → Bool
-is-store none = false
-is-store (some (Set r k)) = false
-is-store (some (Add r k)) = false
-is-store (some (Load r v)) = false
-is-store (some (Store a v)) = true
-is-store (some Fence) = false
-is-store (some (Xchg r v)) = false
-is-store (some (Jeq r q k)) = false
-is-store (some (Jmp q)) = false
-
-unfoldable pub is-load : Option Instr → Bool
-is-load none = false
-is-load (some (Set r k)) = false
-is-load (some (Add r k)) = false
-is-load (some (Load r v)) = true
-is-load (some (Store a v)) = false
-is-load (some Fence) = false
-is-load (some (Xchg r v)) = false
-is-load (some (Jeq r q k)) = false
-is-load (some (Jmp q)) = false
-
--- "no FENCE or XCHG strictly between"
-unfoldable pub is-fence : Option Instr → Bool
-is-fence none = false
-is-fence (some (Set r k)) = false
-is-fence (some (Add r k)) = false
-is-fence (some (Load r v)) = false
-is-fence (some (Store a v)) = false
-is-fence (some Fence) = true
-is-fence (some (Xchg r v)) = true
-is-fence (some (Jeq r q k)) = false
-is-fence (some (Jmp q)) = false
+-- what stands at a place: a store, a load, a fence or none of them
+unfoldable pub role-at : List Instr → ℕ → Role
+role-at code p = elim (getElem? code p) [ none ↦ Other | some i ↦ role-of i ]
 
 -- one move
 abbrev pub Move : List Instr → ℕ → ℕ → Type 0
@@ -73,23 +38,27 @@ Move code p q = q ∈ successors code p
 -- "a walk of one or more moves": from p to q through the places between, none of them a FENCE or XCHG
 abbrev pub Walk : List Instr → ℕ → List ℕ → ℕ → Type 0
 Walk code p [] q = Move code p q
-Walk code p (m ∷ between) q = Move code p m × (¬ (T (is-fence (getElem? code m)))) × Walk code m between q
+Walk code p (m ∷ between) q = Move code p m × (¬ (role-at code m ≡ Fences)) × Walk code m between q
 
 -- "A pair (store place, load place) in one thread is open when a walk .. leads from store to load"; "Every place counts, run or not."
-pub record Open (j : Job) (t s l : ℕ) : Type 0 where
-  pub code : List Instr
-  pub thread-is : getElem? (j .threads) t ≡ some code
-  pub store : T (is-store (getElem? code s))
-  pub load : T (is-load (getElem? code l))
+pub record OpenIn (code : List Instr) (s l : ℕ) : Type 0 where
+  pub store : role-at code s ≡ Stores
+  pub load : role-at code l ≡ Loads
   pub between : List ℕ
   pub walk : Walk code s between l
 
--- "The answer is FENCED, or OPEN with the least (thread, store, load)."
-pub data Fenced : Type 0 where
-  fenced : Fenced
-  open-at : (t s l : ℕ) → Fenced
+-- a pair of thread t; it is of the threads alone: "its model makes no difference here"
+pub record Open (threads : List (List Instr)) (t s l : ℕ) : Type 0 where
+  pub code : List Instr
+  pub thread-is : getElem? threads t ≡ some code
+  pub pair : OpenIn code s l
 
-abbrev pub FenceMeans : Job → Fenced → Type 0
-FenceMeans j fenced = (t s l : ℕ) → ¬ (Open j t s l)
-FenceMeans j (open-at t s l) =
-    Open j t s l × ((t′ s′ l′ : ℕ) → Open j t′ s′ l′ → ¬ (Earlier (t′ ∷ s′ ∷ l′ ∷ []) (t ∷ s ∷ l ∷ [])))
+-- "The answer is FENCED, or OPEN with the least (thread, store, load)."
+pub data Checked : Type 0 where
+  fenced : Checked
+  open-at : (t s l : ℕ) → Checked
+
+abbrev pub ChecksTo : List (List Instr) → Checked → Type 0
+ChecksTo threads fenced = (t s l : ℕ) → ¬ (Open threads t s l)
+ChecksTo threads (open-at t s l) =
+    Open threads t s l × ((t′ s′ l′ : ℕ) → Open threads t′ s′ l′ → ¬ (Earlier (t′ ∷ s′ ∷ l′ ∷ []) (t ∷ s ∷ l ∷ [])))

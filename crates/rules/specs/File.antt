@@ -5,16 +5,16 @@ use mathlib.Core.Option.{Option, none, some}
 use Prim.Native.Nat.{ℕ, zero, suc, _+_, _*_}
 use lib.Dec.{eqb, ltb, leb}
 use lib.ListN.{length, getD}
-use Rattle.rules.specs.Limits.{most-threads, most-variables, registers-each, longest-thread, most-pending, most-clauses, longest-file}
+use Rattle.rules.specs.Limits.{most-threads, most-variables, registers-each, longest-thread, most-pending, most-clauses, shortest-file, longest-file, byte-values, file-version, length-size, item-size}
 use Rattle.rules.specs.Job.{Job}
 use Rattle.rules.specs.Step.{given}
 use Rattle.rules.specs.declared.Model.{Model}
 use Rattle.rules.specs.declared.Model.the-variants.{Sc, Tso, Pso}
-use Rattle.rules.specs.declared.Source.the-variants.{Register as FromRegister, Constant}
+use Rattle.rules.specs.declared.Source.the-variants.{Register, Constant}
 use Rattle.rules.specs.declared.Instr.{Instr}
 use Rattle.rules.specs.declared.Instr.the-variants.{Set, Add, Load, Store, Fence, Xchg, Jeq, Jmp}
 use Rattle.rules.specs.declared.Clause.{Clause}
-use Rattle.rules.specs.declared.Clause.the-variants.{Place, Register, Memory}
+use Rattle.rules.specs.declared.Clause.the-variants.{PlaceIs, RegisterIs, MemoryIs}
 
 -- what reading gives: a value and the offset of the next item, or the first fault's number and offset
 pub data Read (A : Type 0) : Type 0 where
@@ -25,14 +25,14 @@ pub data Read (A : Type 0) : Type 0 where
 abbrev pub Reader : Type 0 → Type 0
 Reader A = ℕ → Read A
 
-unfoldable pub after : {A B : Type 0} → Read A → (A → Reader B) → Read B
-after (got a at) f = f a at
-after (fault number offset) f = fault number offset
+unfoldable pub read-on : {A B : Type 0} → Read A → (A → Reader B) → Read B
+read-on (got a at) f = f a at
+read-on (fault number offset) f = fault number offset
 
 -- "then fields from the front, the first fault winning"
 infixl 1 _>>=_
 unfoldable pub _>>=_ : {A B : Type 0} → Reader A → (A → Reader B) → Reader B
-(r >>= f) at = after (r at) f
+(r >>= f) at = read-on (r at) f
 
 unfoldable pub done : {A : Type 0} → A → Reader A
 done a at = got a at
@@ -76,7 +76,7 @@ instruction-of vars n op a b c =
     ∷ given (register-ok a && zero-ok b) (Set a c)
     ∷ given (register-ok a && zero-ok b) (Add a c)
     ∷ given (register-ok a && ltb b vars && zero-ok c) (Load a b)
-    ∷ given (register-ok a && ltb b vars && zero-ok c) (Store (FromRegister a) b)
+    ∷ given (register-ok a && ltb b vars && zero-ok c) (Store (Register a) b)
     ∷ given (zero-ok a && ltb b vars) (Store (Constant c) b)
     ∷ given (zero-ok a && zero-ok b && zero-ok c) Fence
     ∷ given (register-ok a && ltb b vars && zero-ok c) (Xchg a b)
@@ -90,13 +90,13 @@ unfoldable pub flag-of : ℕ → Option Bool
 flag-of k = getD (some false ∷ some true ∷ []) k none
 
 -- "(1, t, 0, p) .. p from 0 to its n; (2, t, r, k) ..; (3, v, 0, k) ..; t below T, r 0 to 3, v below V, any other clause is bad"
-unfoldable pub clause-of : (vars : ℕ) → List (List Instr) → (kind a b c : ℕ) → Option Clause
-clause-of vars threads kind a b c =
+unfoldable pub clause-of : (vars count n kind a b c : ℕ) → Option Clause
+clause-of vars count n kind a b c =
     getD
     (none
-    ∷ given (ltb a (length threads) && zero-ok b && leb c (length (getD threads a []))) (Place a c)
-    ∷ given (ltb a (length threads) && register-ok b) (Register a b c)
-    ∷ given (ltb a vars && zero-ok b) (Memory a c)
+    ∷ given (ltb a count && zero-ok b && leb c n) (PlaceIs a c)
+    ∷ given (ltb a count && register-ok b) (RegisterIs a b c)
+    ∷ given (ltb a vars && zero-ok b) (MemoryIs a c)
     ∷ [])
     kind none
 
@@ -116,14 +116,18 @@ module _ (bytes : List ℕ) where
   field number value = item 1 number (λ at. value (byte at))
 
   unfoldable pub instruction : (vars n : ℕ) → Reader Instr
-  instruction vars n = item 4 4 (λ at. instruction-of vars n (byte at) (byte (at + 1)) (byte (at + 2)) (byte (at + 3)))
+  instruction vars n = item item-size 4 (λ at. instruction-of vars n (byte at) (byte (at + 1)) (byte (at + 2)) (byte (at + 3)))
 
   -- "per thread: n, then instructions"
   unfoldable pub thread : (vars : ℕ) → Reader (List Instr)
   thread vars = field 4 (in-range 0 longest-thread) >>= λ n. times n (instruction vars n)
 
+  -- a clause of kind 1 asks for the length of its thread: that of thread a, 0 if there is no such thread
   unfoldable pub clause : (vars : ℕ) → List (List Instr) → Reader Clause
-  clause vars threads = item 4 5 (λ at. clause-of vars threads (byte at) (byte (at + 1)) (byte (at + 2)) (byte (at + 3)))
+  clause vars threads =
+      item item-size 5
+      (λ at.
+      clause-of vars (length threads) (length (getD threads (byte (at + 1)) [])) (byte at) (byte (at + 1)) (byte (at + 2)) (byte (at + 3)))
 
   -- "or bytes are left over": refusal 6 at the first byte left over
   unfoldable pub ended : {A : Type 0} → A → Reader A
@@ -132,21 +136,31 @@ module _ (bytes : List ℕ) where
   -- the fields in their order, from the version on
   unfoldable pub fields : Reader Job
   fields =
-      field 2 (in-range 1 1) >>= λ version.
+      field 2 (in-range file-version file-version) >>= λ version.
       field 3 model-of >>= λ model.
       field 3 (capacity-of model) >>= λ capacity.
       field 3 (in-range 1 most-threads) >>= λ count.
       field 3 (in-range 1 most-variables) >>= λ vars.
+      -- "initial values, each a field | any": no value is refused, only one that is not there
       times vars (field 6 some) >>= λ initial.
       times count (thread vars) >>= λ threads.
       field 5 flag-of >>= λ flag.
       field 5 (in-range 0 most-clauses) >>= λ K.
       times K (clause vars threads) >>= λ clauses.
-      ended (record { model = model; capacity = capacity; initial = initial; threads = threads; all-empty = flag; clauses = clauses })
+      ended
+      (record {
+        version = version;
+        model = model;
+        capacity = capacity;
+        initial = initial;
+        threads = threads;
+        all-empty = flag;
+        clauses = clauses;
+      })
 
   -- "fewer than 3 bytes, more than 597, or length wrong"; the length is the "number of bytes that follow", big-endian
   unfoldable pub length-ok : Bool
-  length-ok = leb 3 (length bytes) && leb (length bytes) longest-file && eqb (byte 0 * 256 + byte 1 + 2) (length bytes)
+  length-ok = leb shortest-file (length bytes) && leb (length bytes) longest-file && eqb (byte 0 * byte-values + byte 1 + length-size) (length bytes)
 
 -- what a job's bytes are: a job, or the refusal's number and offset
 pub data Decoded : Type 0 where
@@ -159,4 +173,13 @@ decoded (fault number offset) = refused number offset
 
 -- "1 is judged first"
 unfoldable pub decode : List ℕ → Decoded
-decode bytes = cond (length-ok bytes) (decoded (fields bytes 2)) (refused 1 0)
+decode bytes = cond (length-ok bytes) (decoded (fields bytes length-size)) (refused 1 0)
+
+-- the job that accepted bytes hold; refused bytes hold none, and an empty one stands for it
+unfoldable pub held-job : Decoded → Job
+held-job (accepted j) = j
+held-job (refused number offset) =
+    record { version = 0; model = Sc; capacity = 0; initial = []; threads = []; all-empty = false; clauses = [] }
+
+unfoldable pub job-of : List ℕ → Job
+job-of bytes = held-job (decode bytes)

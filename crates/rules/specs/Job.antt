@@ -11,6 +11,7 @@ use Rattle.rules.specs.declared.Clause.{Clause}
 
 -- T is the number of threads, V that of the initial values, a thread's n that of its instructions, K that of the clauses
 pub record Job : Type 0 where
+  pub version : ℕ
   pub model : Model
   pub capacity : ℕ
   pub initial : List ℕ

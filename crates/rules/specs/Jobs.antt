@@ -106,6 +106,28 @@ p12 =
 
 -- Jobs beyond the list, one for each rule that the list leaves alone.
 
+-- TSO, C 2: y=1, x=1, ADD, JEQ not taken, FENCE: stores join at the end whatever their variables, only the FENCE waits
+unfoldable pub waits-apart : List ℕ
+waits-apart =
+    -- length 30, version 1, TSO, C 2, 1 thread, 2 variables, both 0
+    0x00 ∷ 0x1E ∷ 0x01 ∷ 0x01 ∷ 0x02 ∷ 0x01 ∷ 0x02 ∷ 0x00 ∷ 0x00
+    -- y=1, x=1, ADD 1 to register 0, JEQ register 0 = 9 to 5, FENCE
+    ∷ 0x05 ∷ 0x05 ∷ 0x00 ∷ 0x01 ∷ 0x01 ∷ 0x05 ∷ 0x00 ∷ 0x00 ∷ 0x01 ∷ 0x02 ∷ 0x00 ∷ 0x00 ∷ 0x01 ∷ 0x08 ∷ 0x00 ∷ 0x05 ∷ 0x09 ∷ 0x06 ∷ 0x00 ∷ 0x00 ∷ 0x00
+    -- any buffers, no clause
+    ∷ 0x00 ∷ 0x00
+    ∷ []
+
+-- PSO, C 2: three stores to x
+unfoldable pub three-to-one : List ℕ
+three-to-one =
+    -- length 21, version 1, PSO, C 2, 1 thread, 1 variable, 0
+    0x00 ∷ 0x15 ∷ 0x01 ∷ 0x02 ∷ 0x02 ∷ 0x01 ∷ 0x01 ∷ 0x00
+    -- x=1, x=2, x=3
+    ∷ 0x03 ∷ 0x05 ∷ 0x00 ∷ 0x00 ∷ 0x01 ∷ 0x05 ∷ 0x00 ∷ 0x00 ∷ 0x02 ∷ 0x05 ∷ 0x00 ∷ 0x00 ∷ 0x03
+    -- any buffers, no clause
+    ∷ 0x00 ∷ 0x00
+    ∷ []
+
 -- TSO, C 2: x=1, x=2, load x; goal place 3 and register 0 = 1
 unfoldable pub own-newest : List ℕ
 own-newest =

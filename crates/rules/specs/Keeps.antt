@@ -1,24 +1,29 @@
 -- Every state that an accepted job reaches is well formed: the start is, and each step keeps it so.
 use mathlib.Core.Path.{_≡_, refl, ap, subst}
-use mathlib.Core.Bool.{Bool, true, false, cond}
+use mathlib.Core.Bool.{Bool, true, false, cond, _&&_, _||_, false≢true}
 use mathlib.Core.List.{List, [], _∷_, _++_}
-use mathlib.Core.Option.{Option, none, some, Option·none-ne-some, Option·some-injective}
+use mathlib.Core.Option.{Option, none, some}
 use Prim.Native.Nat.{ℕ, zero, suc, _+_, _-_, _*_, _%_, _≤_, _<_}
 use native.Mathlib.Omega.{arith}
 use lib.Dec.{eqb, ltb, leb}
-use lib.ListN.{length, getD, set, replicate, getElem?, length-append, length-set, length-replicate}
+use lib.ListN.{length, getD, replicate, getElem?, length-append, length-set, length-replicate}
 use borrow.Author.Tests.{ltb-true, leb-true, leb-false, eqb-true}
 use Rattle.reach.specs.Lists.{All, Pairwise}
-use Rattle.reach.specs.ListLaws.{all-imp, all-append, all-replicate, all-getD, all-set, at-set, getD-padded}
+use Rattle.reach.specs.ListLaws.{all-at, all-imp, all-append, all-replicate, all-getD, all-set, at-in, at-below, at-getD, at-set, getD-padded}
 use Rattle.reach.specs.System.{andThen, run}
-use Rattle.rules.specs.Limits.{most-threads, most-variables, registers-each, all-registers, values, step-bound}
+use Rattle.reach.specs.RunLaws.{andThen-some}
+use Rattle.rules.specs.Limits.{most-threads, most-variables, registers-each, all-registers, values, most-pending, step-bound}
 use Rattle.rules.specs.State.{Pending, State, place, register, variable, buffer}
 use Rattle.rules.specs.State.{with-place, with-register, with-variable, with-buffer}
 use Rattle.rules.specs.Job.{Job, start}
-use Rattle.rules.specs.Step.{given, newest, by-variable, joined, Taken, take-oldest, behind, take-oldest-to, taken, is-empty}
-use Rattle.rules.specs.Step.{advanced, carried, buffered, stored, executed, execute, flush, next}
+use Rattle.rules.specs.Kinds.{control-of, wait-of}
+use Rattle.rules.specs.Step.{newest, by-variable, oldest-to, without-oldest-to, has-room, free, may-execute, is-pending-to, is-oldest-to, may-flush}
+use Rattle.rules.specs.Step.{carried, stored, changed, executed, flushed, instruction-at, flush-thread, flush-variable, may, after-execute, after, next}
+use Rattle.rules.specs.Tests.{both-true, given-some}
 use Rattle.rules.specs.Machine.{machine}
-use Rattle.rules.specs.Sound.{SourceIn, InstrIn, JobIn, InOrder, BufferIn, WellFormed}
+use Rattle.rules.specs.Fences.{onward}
+use Rattle.rules.specs.Sound.{SourceIn, InstrIn, CapacityIn, JobIn, InOrder, BufferIn, WellFormed}
+use Rattle.rules.specs.Onward.{place-after-onward, control-in, onward-in}
 use Rattle.rules.specs.declared.Model.{Model}
 use Rattle.rules.specs.declared.Model.the-variants.{Sc, Tso, Pso}
 use Rattle.rules.specs.declared.Source.{Source}
@@ -30,44 +35,9 @@ use Rattle.rules.specs.declared.Instr.the-variants.{Set, Add, Load, Stor
 abbrev pub Value : ℕ → Type 0
 Value k = k < values
 
--- Options: what holds of the value, if there is one. A step is followed through its tests and questions by one law for each.
-
-data Every {A : Type 0} (P : A → Type 0) : Option A → Type 0 where
-  nothing : Every P none
-  just : {a : A} → P a → Every P (some a)
-
-module _ {A : Type 0} where
-  of-value : {P : A → Type 0} {o : Option A} {a : A} → Every P o → o ≡ some a → P a
-  of-value nothing e = absurd (Option·none-ne-some _ e)
-  of-value {P} (just {a = b} p) e = subst P (Option·some-injective b _ e) p
-
-  of-andThen : {B : Type 0} {P : A → Type 0} {Q : B → Type 0} {o : Option A} {f : A → Option B}
-      → Every P o → ((a : A) → P a → Every Q (f a)) → Every Q (andThen o f)
-  of-andThen nothing k = nothing
-  of-andThen (just {a = a} p) k = k a p
-
-  of-given : (P : A → Type 0) (c : Bool) {a : A} → (c ≡ true → P a) → Every P (given c a)
-  of-given P true h = just (h refl)
-  of-given P false h = nothing
-
-  of-cond : (P : A → Type 0) (c : Bool) {a b : A} → (c ≡ true → P a) → (c ≡ false → P b) → P (cond c a b)
-  of-cond P true h k = h refl
-  of-cond P false h k = k refl
-
--- an element of a list at an index: the property of all elements, the index inside, and every way to read there gives it
-record ElementAt {A : Type 0} (P : A → Type 0) (l : List A) (i : ℕ) (a : A) : Type 0 where
-  has : P a
-  inside : i < length l
-  read : (d : A) → getD l i d ≡ a
-
-of-element : {A : Type 0} (P : A → Type 0) (l : List A) (i : ℕ) → All P l → Every (ElementAt P l i) (getElem? l i)
-of-element P [] i h = nothing
-of-element P (a ∷ l) zero h = just (record { has = h .0; inside = omega arith; read = λ d. refl })
-of-element {A} P (a ∷ l) (suc i) h = deeper (of-element P l i (h .1))
-  where
-    deeper : {o : Option A} → Every (ElementAt P l i) o → Every (ElementAt P (a ∷ l) (suc i)) o
-    deeper nothing = nothing
-    deeper (just e) = just (record { has = e .has; inside = omega arith; read = e .read })
+of-cond : {A : Type 0} (P : A → Type 0) (c : Bool) {a b : A} → (c ≡ true → P a) → (c ≡ false → P b) → P (cond c a b)
+of-cond P true h k = h refl
+of-cond P false h k = k refl
 
 -- Buffers. A store that joins is put in somewhere, and a flush takes one out from somewhere: `Inserted q b c`, c is b and q besides.
 
@@ -121,30 +91,27 @@ by-variable-ordered q (p ∷ b) h =
     let lower : q .variable < p .variable = leb-false _ _ e in
     ((omega arith, all-imp (AtLeast p) (AtLeast q) (λ r k. omega arith) b (h .0)), h))
 
--- what a flush takes was pending to its variable
-abbrev TakenFrom : ℕ → List Pending → Taken → Type 0
-TakenFrom v b p = Inserted (record { variable = v; value = p .value }) (p .rest) b
+-- what a flush takes was pending to its variable, and the rest is left
+oldest-taken : (v : ℕ) (b : List Pending)
+    → is-pending-to v b ≡ true → Inserted (record { variable = v; value = oldest-to v b }) (without-oldest-to v b) b
+unfolding is-pending-to oldest-to without-oldest-to
+oldest-taken v [] h = absurd (false≢true h)
+oldest-taken v (p ∷ b) h = which (eqb (p .variable) v) refl h (oldest-taken v b)
+  where
+    which :
+        (c : Bool) → eqb (p .variable) v ≡ c → (c || is-pending-to v b) ≡ true →
+        (is-pending-to v b ≡ true → Inserted (record { variable = v; value = oldest-to v b }) (without-oldest-to v b) b) →
+        Inserted (record { variable = v; value = cond c (p .value) (oldest-to v b) }) (cond c b (p ∷ without-oldest-to v b)) (p ∷ b)
+    which true e h behind = subst (λ u. Inserted (record { variable = u; value = p .value }) b (p ∷ b)) (eqb-true _ _ e) here
+    which false e h behind = later (behind h)
 
-taken-first : (v : ℕ) (p : Pending) (b : List Pending)
-    → eqb (p .variable) v ≡ true → TakenFrom v (p ∷ b) (record { value = p .value; rest = b })
-taken-first v p b e = subst (λ u. Inserted (record { variable = u; value = p .value }) b (p ∷ b)) (eqb-true _ _ e) here
-
-take-oldest-to-from : (v : ℕ) (b : List Pending) → Every (TakenFrom v b) (take-oldest-to v b)
-unfolding take-oldest-to behind
-take-oldest-to-from v [] = nothing
-take-oldest-to-from v (p ∷ b) =
-    of-cond
-    (Every (TakenFrom v (p ∷ b)))
-    (eqb (p .variable) v)
-    (λ e. just (taken-first v p b e))
-    (λ e. of-andThen (take-oldest-to-from v b) (λ k i. just (later i)))
-
-taken-from : (m : Model) (v : ℕ) (b : List Pending) → Every (TakenFrom v b) (taken m v b)
-unfolding taken take-oldest
-taken-from Sc v b = nothing
-taken-from Tso v [] = nothing
-taken-from Tso v (p ∷ b) = of-given (TakenFrom v (p ∷ b)) (eqb (p .variable) v) (taken-first v p b)
-taken-from Pso v b = take-oldest-to-from v b
+-- a store that may be flushed is pending
+flush-pending : (m : Model) (v : ℕ) (b : List Pending) → may-flush m v b ≡ true → is-pending-to v b ≡ true
+unfolding may-flush is-oldest-to is-pending-to
+flush-pending Sc v b h = absurd (false≢true h)
+flush-pending Tso v [] h = h
+flush-pending Tso v (p ∷ b) h = rw h
+flush-pending Pso v b h = h
 
 newest-value : (v k : ℕ) (b : List Pending) → Value k → All (λ p. Value (p .value)) b → Value (newest v k b)
 unfolding newest
@@ -194,6 +161,22 @@ module _ (j : Job) where
           order = removed-in-order (j .model) i (h .order);
         },
       )
+
+-- the stores of one buffer never outnumber the pairs that a slot has for them
+abbrev pub Fits : List Pending → Type 0
+Fits b = length b ≤ most-pending
+
+pub capacity-most : (m : Model) (c : ℕ) → CapacityIn m c → c ≤ most-pending
+capacity-most Sc c h = omega arith
+capacity-most Tso c h = h .1
+capacity-most Pso c h = h .1
+
+module _ (j : Job) (ok : JobIn j) where
+  pub buffer-fits : (b : List Pending) → BufferIn j b → Fits b
+  buffer-fits b h = omega (arith, capacity-most (j .model) (j .capacity) (ok .capacity))
+
+  pub buffers-fit : (x : State) → WellFormed j x → All Fits (x .buffers)
+  buffers-fit x w = all-imp (BufferIn j) Fits buffer-fits (x .buffers) (w .buffers)
 
 -- States: what may be written to each part.
 
@@ -291,98 +274,111 @@ module _ (j : Job) (x : State) (w : WellFormed j x) where
             at-set (λ u c. length (j .threads) ≤ u → c ≡ []) (x .buffers) t b [] (w .buffers-unused) (λ beyond. absurd (omega arith));
       }
 
-  advanced-keeps : (t : ℕ) → place t x < length (getD (j .threads) t []) → WellFormed j (advanced t x)
-  unfolding advanced
-  advanced-keeps t h = with-place-keeps t (suc (place t x)) h
-
   carried-value : (t : ℕ) (a : Source) → SourceIn a → Value (carried t x a)
   unfolding carried
   carried-value t (Register r) h = register-value t r
   carried-value t (Constant k) h = h
 
+-- what stands at a place of a thread; a thread that the job doesn't have has no instruction
+pub instruction-of-thread : (j : Job) (t p : ℕ) → instruction-at j t p ≡ getElem? (getD (j .threads) t []) p
+unfolding instruction-at
+instruction-of-thread j t p = go (j .threads) t
+  where
+    go : (l : List (List Instr)) (t : ℕ) → andThen (getElem? l t) (λ code. getElem? code p) ≡ getElem? (getD l t []) p
+    go [] t = refl
+    go (code ∷ l) zero = refl
+    go (code ∷ l) (suc t) = go l t
+
+-- an instruction that a thread can stand at: thread, place and operands are the job's
+pub record StandsIn (j : Job) (t p : ℕ) (i : Instr) : Type 0 where
+  pub thread : t < length (j .threads)
+  pub inside : p < length (getD (j .threads) t [])
+  pub operands : InstrIn (length (j .initial)) (length (getD (j .threads) t [])) i
+
+pub stands : (j : Job) → JobIn j → (t p : ℕ) (i : Instr) → instruction-at j t p ≡ some i → StandsIn j t p i
+unfolding instruction-at
+stands j ok t p i e =
+    let r = andThen-some (getElem? (j .threads) t) (λ code. getElem? code p) i e in
+    let code-is = at-getD (j .threads) t (r .0) [] (r .1) in
+    let Fit : List Instr → Instr → Type 0 = λ code. InstrIn (length (j .initial)) (length code) in
+    let fits = all-at (λ code. All (Fit code) code) (j .threads) (ok .instructions) (r .0) (at-in (j .threads) t (r .0) (r .1)) in
+    record {
+      thread = at-below (j .threads) t (r .0) (r .1);
+      inside = rw code-is (at-below (r .0) p i (r .2));
+      operands = rw code-is (all-at (Fit (r .0)) (r .0) fits i (at-in (r .0) p i (r .2)));
+    }
+
 -- One step, of a thread that the job has.
 
-module _ (j : Job) (t : ℕ) (used : t < length (j .threads)) where
-  -- after a store its thread still stands at its place
-  Stored : State → State → Type 0
-  Stored x y = WellFormed j y × (place t y ≡ place t x)
+module _ (j : Job) (t : ℕ) (used : t < length (j .threads)) (x : State) (w : WellFormed j x) where
+  joined-keeps : {q : Pending} {c : List Pending}
+      → Inserted q (buffer t x) c → PendingIn j q → length (buffer t x) < j .capacity → InOrder (j .model) c → WellFormed j (with-buffer t c x)
+  joined-keeps i h room o = with-buffer-keeps j x w t _ used (inserted-in j i (buffer-in j x w t) h room o)
 
-  joined-keeps : (m : Model) → j .model ≡ m → (q : Pending) (x : State) → WellFormed j x → PendingIn j q
-      → Inserted q (buffer t x) (joined m q (buffer t x)) → (InOrder m (buffer t x) → InOrder m (joined m q (buffer t x)))
-      → Every (Stored x) (buffered m (j .capacity) t (q .variable) (q .value) x)
-  unfolding Stored place with-buffer buffered
-  joined-keeps m e q x w h i o =
-      let old = buffer-in j x w t in
-      of-given
-      (Stored x)
-      (ltb (length (buffer t x)) (j .capacity))
-      (λ room. (with-buffer-keeps j x w t _ used (inserted-in j i old h (ltb-true _ _ room) (rw e (o (rw e at (old .order))))), refl))
+  stored-keeps : (m : Model) → j .model ≡ m → (v k : ℕ) → PendingIn j (record { variable = v; value = k })
+      → has-room m (j .capacity) (buffer t x) ≡ true → WellFormed j (stored m t v k x)
+  unfolding stored has-room
+  stored-keeps Sc e v k h room = with-variable-keeps j x w v k (h .variable-in) (h .value-in)
+  stored-keeps Tso e v k h room = joined-keeps (at-end _ _) h (ltb-true _ _ room) (rw e tt)
+  stored-keeps Pso e v k h room =
+      joined-keeps (by-variable-inserted _ _) h (ltb-true _ _ room)
+      (rw e (by-variable-ordered _ (buffer t x) (rw e at (buffer-in j x w t .order))))
 
-  stored-keeps : (m : Model) → j .model ≡ m → (v k : ℕ) (x : State) → WellFormed j x → PendingIn j (record { variable = v; value = k })
-      → Every (Stored x) (stored m (j .capacity) t v k x)
-  unfolding Stored stored joined place with-variable
-  stored-keeps Sc e v k x w h = just (with-variable-keeps j x w v k (h .variable-in) (h .value-in), refl)
-  stored-keeps Tso e v k x w h = joined-keeps Tso e _ x w h (at-end _ _) (λ o. tt)
-  stored-keeps Pso e v k x w h = joined-keeps Pso e _ x w h (by-variable-inserted _ _) (by-variable-ordered _ (buffer t x))
+  changed-keeps : (n : ℕ) (i : Instr) → InstrIn (length (j .initial)) n i
+      → free (j .model) (j .capacity) (wait-of i) (buffer t x) ≡ true → WellFormed j (changed (j .model) t i x)
+  unfolding changed wait-of free
+  changed-keeps n (Set r k) h f = with-register-keeps j x w t r k used (h .0) (h .1)
+  changed-keeps n (Add r k) h f = with-register-keeps j x w t r _ used (h .0) (omega arith)
+  changed-keeps n (Load r v) h f =
+      with-register-keeps j x w t r _ used (h .0)
+      (newest-value v _ _ (variable-value j x w v) (buffer-in j x w _ .values-in))
+  changed-keeps n (Store a v) h f =
+      stored-keeps (j .model) refl v (carried t x a) (record { variable-in = h .1; value-in = carried-value j x w t a (h .0) }) f
+  changed-keeps n Fence h f = w
+  changed-keeps n (Xchg r v) h f =
+      with-register-keeps j _ (with-variable-keeps j x w v _ (h .1) (register-value j x w t r)) t r _ used (h .0) (variable-value j x w v)
+  changed-keeps n (Jeq r p k) h f = w
+  changed-keeps n (Jmp p) h f = w
 
-  executed-keeps : (i : Instr) (x : State) → WellFormed j x → InstrIn (length (j .initial)) (length (getD (j .threads) t [])) i
-      → place t x < length (getD (j .threads) t []) → Every (WellFormed j) (executed (j .model) (j .capacity) t i x)
-  unfolding executed place with-register with-variable Stored
-  executed-keeps (Set r k) x w h on = just (advanced-keeps j _ (with-register-keeps j x w t r k used (h .0) (h .1)) t on)
-  executed-keeps (Add r k) x w h on =
-      just (advanced-keeps j _ (with-register-keeps j x w t r ((register t r x + k) % values) used (h .0) (omega arith)) t on)
-  executed-keeps (Load r v) x w h on =
-      let small = newest-value v (variable v x) (buffer t x) (variable-value j x w v) (buffer-in j x w t .values-in) in
-      just (advanced-keeps j _ (with-register-keeps j x w t r _ used (h .0) small) t on)
-  executed-keeps (Store a v) x w h on =
-      of-andThen
-      (stored-keeps (j .model) refl v (carried t x a) x w (record { variable-in = h .1; value-in = carried-value j x w t a (h .0) }))
-      (λ y s. just (advanced-keeps j y (s .0) t (omega (arith, s .1))))
-  executed-keeps Fence x w h on = of-given (WellFormed j) (is-empty (buffer t x)) (λ e. advanced-keeps j x w t on)
-  executed-keeps (Xchg r v) x w h on =
-      let memory-set = with-variable-keeps j x w v _ (h .1) (register-value j x w t r) in
-      let both-set = with-register-keeps j _ memory-set t r _ used (h .0) (variable-value j x w v) in
-      of-given (WellFormed j) (is-empty (buffer t x)) (λ e. advanced-keeps j _ both-set t on)
-  executed-keeps (Jeq r p k) x w h on =
-      just (of-cond (WellFormed j) (eqb (register t r x) k) (λ e. with-place-keeps j x w t p (h .1)) (λ e. advanced-keeps j x w t on))
-  executed-keeps (Jmp p) x w h on = just (with-place-keeps j x w t p h)
+  executed-keeps : (i : Instr) → StandsIn j t (place t x) i → free (j .model) (j .capacity) (wait-of i) (buffer t x) ≡ true
+      → WellFormed j (executed (j .model) t i x)
+  unfolding executed
+  executed-keeps i h f =
+      let n = length (getD (j .threads) t []) in
+      let places = onward-in n (place t x) (control-of i) (control-in (length (j .initial)) n i (h .operands)) (h .inside) in
+      let goes-on = all-at (λ q. q ≤ n) (onward (place t x) (control-of i)) places _ (place-after-onward t (control-of i) x) in
+      with-place-keeps j _ (changed-keeps n i (h .operands) f) t _ goes-on
 
-module _ (j : Job) (ok : JobIn j) where
-  execute-keeps : (t : ℕ) (x : State) → WellFormed j x → Every (WellFormed j) (execute j t x)
-  unfolding execute
-  execute-keeps t x w =
-      let Fit : List Instr → Instr → Type 0 = λ code. InstrIn (length (j .initial)) (length code) in
-      of-andThen
-      (of-element (λ code. All (Fit code) code) (j .threads) t (ok .instructions))
-      (λ code c.
-      of-andThen
-      (of-element (Fit code) code (place t x) (c .has))
-      (λ i e. executed-keeps j t (c .inside) i x w (rw (c .read []) (e .has)) (rw (c .read []) (e .inside))))
+module _ (j : Job) (ok : JobIn j) (x : State) (w : WellFormed j x) where
+  execute-keeps : (t : ℕ) (o : Option Instr) → instruction-at j t (place t x) ≡ o
+      → may-execute (j .model) (j .capacity) o (buffer t x) ≡ true → WellFormed j (after-execute (j .model) t o x)
+  unfolding may-execute after-execute
+  execute-keeps t none e may = w
+  execute-keeps t (some i) e may = let h = stands j ok t (place t x) i e in executed-keeps j t (h .thread) x w i h may
 
-  flush-keeps : (t v : ℕ) (x : State) → WellFormed j x → Every (WellFormed j) (flush j t v x)
-  unfolding flush buffer with-variable
-  flush-keeps t v x w =
-      of-andThen
-      (taken-from (j .model) v (buffer t x))
-      (λ p i.
+  flush-keeps : (t v : ℕ) → may-flush (j .model) v (buffer t x) ≡ true → WellFormed j (flushed t v x)
+  unfolding flushed
+  flush-keeps t v may =
+      let i = oldest-taken v (buffer t x) (flush-pending (j .model) v (buffer t x) may) in
       let r = removed-in j i (buffer-in j x w t) in
       -- a thread that the job doesn't have has nothing pending
       let there : ¬ (length (j .threads) ≤ t) = λ beyond. omega (arith, inserted-length i, ap length (w .buffers-unused t beyond)) in
-      let memory-set = with-variable-keeps j x w v (p .value) (r .0 .variable-in) (r .0 .value-in) in
-      just (with-buffer-keeps j _ memory-set t (p .rest) (omega arith) (r .1)))
+      let memory-set = with-variable-keeps j x w v _ (r .0 .variable-in) (r .0 .value-in) in
+      with-buffer-keeps j _ memory-set t _ (omega arith) (r .1)
 
-  next-keeps : (s : ℕ) (x : State) → WellFormed j x → Every (WellFormed j) (next j s x)
-  unfolding next
-  next-keeps s x w =
-      of-cond
-      (Every (WellFormed j))
-      (ltb s most-threads)
-      (λ e. execute-keeps s x w)
-      (λ e. of-cond (Every (WellFormed j)) (ltb s step-bound) (λ h. flush-keeps _ _ x w) (λ h. nothing))
-
-  run-keeps : (u : List ℕ) (x : State) → WellFormed j x → Every (WellFormed j) (run (machine j) u x)
-  run-keeps [] x w = just w
-  run-keeps (s ∷ u) x w = of-andThen (next-keeps s x w) (run-keeps u)
+  after-keeps : (s : ℕ) → may j s x ≡ true → WellFormed j (after j s x)
+  unfolding may after
+  after-keeps s = which (ltb s most-threads)
+    where
+      which :
+          (b : Bool) →
+          cond b (may-execute (j .model) (j .capacity) (instruction-at j s (place s x)) (buffer s x))
+          (ltb s step-bound && may-flush (j .model) (flush-variable s) (buffer (flush-thread s) x))
+          ≡ true →
+          WellFormed j
+          (cond b (after-execute (j .model) s (instruction-at j s (place s x)) x) (flushed (flush-thread s) (flush-variable s) x))
+      which true h = execute-keeps s (instruction-at j s (place s x)) refl h
+      which false h = flush-keeps (flush-thread s) (flush-variable s) (both-true (ltb s step-bound) _ h .1)
 
 pub start-well-formed : (j : Job) → JobIn j → WellFormed j (start j)
 unfolding start place register variable buffer
@@ -403,7 +399,16 @@ start-well-formed j ok =
     }
 
 pub next-well-formed : (j : Job) → JobIn j → (s : ℕ) (x y : State) → WellFormed j x → next j s x ≡ some y → WellFormed j y
-next-well-formed j ok s x y w e = of-value (next-keeps j ok s x w) e
+unfolding next
+next-well-formed j ok s x y w e =
+    let g = given-some (may j s x) (after j s x) y e in
+    subst (WellFormed j) (g .1) (after-keeps j ok x w s (g .0))
+
+run-keeps : (j : Job) → JobIn j → (u : List ℕ) (x y : State) → WellFormed j x → run (machine j) u x ≡ some y → WellFormed j y
+run-keeps j ok [] x y w e = let same : x ≡ y = (let f : some x ≡ some y = e in cc) in subst (WellFormed j) same w
+run-keeps j ok (s ∷ u) x y w e =
+    let r = andThen-some (next j s x) (run (machine j) u) y e in
+    run-keeps j ok u (r .0) y (next-well-formed j ok s x (r .0) w (r .1)) (r .2)
 
 pub run-well-formed : (j : Job) → JobIn j → (w : List ℕ) (y : State) → run (machine j) w (start j) ≡ some y → WellFormed j y
-run-well-formed j ok w y e = of-value (run-keeps j ok w (start j) (start-well-formed j ok)) e
+run-well-formed j ok w y e = run-keeps j ok w (start j) y (start-well-formed j ok) e

@@ -11,8 +11,13 @@ most-variables = 8
 abbrev pub registers-each : ℕ
 registers-each = 4
 
+-- the values of a register or a variable
 abbrev pub values : ℕ
 values = 256
+
+-- the values of a byte of the file
+abbrev pub byte-values : ℕ
+byte-values = 256
 
 -- "A thread has n instructions (0 to 32)"
 abbrev pub longest-thread : ℕ
@@ -26,9 +31,28 @@ most-pending = 8
 abbrev pub most-clauses : ℕ
 most-clauses = 16
 
--- "The longest file is 597 bytes": length, version, four numbers, the variables, the threads, flag, K, the clauses
+-- "version | 1 | 1", "version not 1"
+abbrev pub file-version : ℕ
+file-version = 1
+
+-- "Length first", then the version: "fewer than 3 bytes" are none of a job
+abbrev pub length-size : ℕ
+length-size = 2
+
+abbrev pub shortest-file : ℕ
+shortest-file = length-size + 1
+
+-- length, version, and model, C, T, V: the initial values stand behind them
+abbrev pub head-size : ℕ
+head-size = shortest-file + 4
+
+-- "Instructions are four bytes", and so are clauses
+abbrev pub item-size : ℕ
+item-size = 4
+
+-- "The longest file is 597 bytes": the head, the variables, the threads, flag, K, the clauses
 abbrev pub longest-file : ℕ
-longest-file = 2 + 1 + 4 + most-variables + most-threads * (1 + 4 * longest-thread) + 1 + 1 + 4 * most-clauses
+longest-file = head-size + most-variables + most-threads * (1 + item-size * longest-thread) + 1 + 1 + item-size * most-clauses
 
 abbrev pub all-registers : ℕ
 all-registers = most-threads * registers-each

@@ -1,20 +1,21 @@
 -- The bytes of a slot stand for one state: as many as a slot has, each a byte, and two well-formed states with the same bytes are equal.
-use mathlib.Core.Path.{_≡_, refl, sym, ap, ap₂, _∙_}
+use mathlib.Core.Path.{_≡_, refl, sym, ap₂, _∙_}
 use mathlib.Core.List.{List, [], _∷_, _++_, append-assoc}
-use Prim.Native.Nat.{ℕ, suc, _-_, _*_, _≤_, _<_}
+use Prim.Native.Nat.{ℕ, _-_, _*_, _≤_, _<_}
 use native.Mathlib.Omega.{arith}
-use lib.ListN.{length, getD, take, drop, replicate, length-append, length-replicate}
-use lib.Seq.{take-at, drop-at}
+use lib.ListN.{length, replicate, length-append, length-replicate}
 use Rattle.reach.specs.Lists.{All}
 use Rattle.reach.specs.ListLaws.{all-imp, all-append, all-replicate, all-getD, append-equal, all-by-getD}
-use Rattle.rules.specs.Limits.{values, most-pending, pairs-size, buffer-size, slot-size, longest-thread}
+use Rattle.rules.specs.Limits.{byte-values, pairs-size, buffer-size, slot-size, longest-thread}
 use Rattle.rules.specs.State.{Pending, State, place}
 use Rattle.rules.specs.Job.{Job}
 use Rattle.rules.specs.Slot.{pair-bytes, buffer-bytes, buffers-bytes, slot-bytes}
-use Rattle.rules.specs.Sound.{CapacityIn, JobIn, BufferIn, WellFormed}
-use Rattle.rules.specs.Keeps.{Value}
-use Rattle.rules.specs.declared.Model.{Model}
-use Rattle.rules.specs.declared.Model.the-variants.{Sc, Tso, Pso}
+use Rattle.rules.specs.Sound.{JobIn, BufferIn, WellFormed}
+use Rattle.rules.specs.Keeps.{Fits, buffer-fits, buffers-fit}
+
+-- a byte of a slot
+abbrev pub Byte : ℕ → Type 0
+Byte k = k < byte-values
 
 -- Equal bytes, equal buffers: the count comes first, and says how many pairs follow.
 
@@ -45,9 +46,6 @@ buffer-bytes-equal b c e =
     let number : length (pair-bytes b) ≡ length (pair-bytes c) = omega (arith, pair-bytes-number b, pair-bytes-number c) in
     pair-bytes-equal b c count (append-equal (pair-bytes b) (pair-bytes c) (unused-pairs b) (unused-pairs c) number pairs .0)
 
-abbrev Fits : List Pending → Type 0
-Fits b = length b ≤ most-pending
-
 buffer-bytes-number : (b : List Pending) → Fits b → length (buffer-bytes b) ≡ buffer-size
 unfolding buffer-bytes
 buffer-bytes-number b h =
@@ -70,54 +68,43 @@ buffers-bytes-equal (b ∷ l) (c ∷ m) n h k e =
     let parts = append-equal (buffer-bytes b) (buffer-bytes c) (buffers-bytes l) (buffers-bytes m) number e in
     ap₂ {C = List (List Pending)} _∷_ (buffer-bytes-equal b c (parts .0)) (buffers-bytes-equal l m (omega arith) (h .1) (k .1) (parts .1))
 
-pair-bytes-values : (b : List Pending) → All (λ p. Value (p .variable)) b → All (λ p. Value (p .value)) b → All Value (pair-bytes b)
+pair-bytes-values : (b : List Pending) → All (λ p. Byte (p .variable)) b → All (λ p. Byte (p .value)) b → All Byte (pair-bytes b)
 unfolding pair-bytes
 pair-bytes-values [] h k = tt
 pair-bytes-values (p ∷ b) h k = (h .0, (k .0, pair-bytes-values b (h .1) (k .1)))
 
-capacity-most : (m : Model) (c : ℕ) → CapacityIn m c → c ≤ most-pending
-capacity-most Sc c h = omega arith
-capacity-most Tso c h = h .1
-capacity-most Pso c h = h .1
-
 module _ (j : Job) (ok : JobIn j) where
-  buffer-fits : (b : List Pending) → BufferIn j b → Fits b
-  buffer-fits b h = omega (arith, capacity-most (j .model) (j .capacity) (ok .capacity))
-
-  buffer-bytes-values : (b : List Pending) → BufferIn j b → All Value (buffer-bytes b)
+  buffer-bytes-values : (b : List Pending) → BufferIn j b → All Byte (buffer-bytes b)
   unfolding buffer-bytes
   buffer-bytes-values b h = (
-    omega (arith, buffer-fits b h),
-    all-append Value (pair-bytes b) _
+    omega (arith, buffer-fits j ok b h),
+    all-append Byte (pair-bytes b) _
         (pair-bytes-values b (all-imp _ _ (λ p k. omega arith) b (h .variables)) (h .values-in))
-        (all-replicate Value (pairs-size - length (pair-bytes b)) 0 (omega arith)),
+        (all-replicate Byte (pairs-size - length (pair-bytes b)) 0 (omega arith)),
   )
 
-  buffers-bytes-values : (l : List (List Pending)) → All (BufferIn j) l → All Value (buffers-bytes l)
+  buffers-bytes-values : (l : List (List Pending)) → All (BufferIn j) l → All Byte (buffers-bytes l)
   unfolding buffers-bytes
   buffers-bytes-values [] h = tt
   buffers-bytes-values (b ∷ l) h =
-      all-append Value (buffer-bytes b) (buffers-bytes l) (buffer-bytes-values b (h .0)) (buffers-bytes-values l (h .1))
-
-  buffers-fit : (x : State) → WellFormed j x → All Fits (x .buffers)
-  buffers-fit x w = all-imp (BufferIn j) Fits buffer-fits (x .buffers) (w .buffers)
+      all-append Byte (buffer-bytes b) (buffers-bytes l) (buffer-bytes-values b (h .0)) (buffers-bytes-values l (h .1))
 
   pub slot-bytes-number : (x : State) → WellFormed j x → length (slot-bytes x) ≡ slot-size
   unfolding slot-bytes
-  slot-bytes-number x w = simp length-append (omega (arith, buffers-bytes-number (x .buffers) (buffers-fit x w)))
+  slot-bytes-number x w = simp length-append (omega (arith, buffers-bytes-number (x .buffers) (buffers-fit j ok x w)))
 
-  place-value : (x : State) → WellFormed j x → (t : ℕ) → Value (place t x)
+  place-value : (x : State) → WellFormed j x → (t : ℕ) → Byte (place t x)
   place-value x w t =
       let short = all-getD (λ code. length code ≤ longest-thread) (j .threads) t [] (ok .lengths) (omega arith) in
       omega (arith, w .places t)
 
-  pub slot-bytes-values : (x : State) → WellFormed j x → All (λ k. k < values) (slot-bytes x)
+  pub slot-bytes-values : (x : State) → WellFormed j x → All Byte (slot-bytes x)
   unfolding slot-bytes place
   slot-bytes-values x w =
-      let front = all-append Value (x .places) (x .registers) (all-by-getD Value (x .places) 0 (place-value x w)) (w .registers) in
-      let cells = all-append Value (x .places ++ x .registers) (x .memory) front (w .memory) in
+      let front = all-append Byte (x .places) (x .registers) (all-by-getD Byte (x .places) 0 (place-value x w)) (w .registers) in
+      let cells = all-append Byte (x .places ++ x .registers) (x .memory) front (w .memory) in
       let buffers = buffers-bytes-values (x .buffers) (w .buffers) in
-      all-append Value (x .places ++ x .registers ++ x .memory) (buffers-bytes (x .buffers)) cells buffers
+      all-append Byte (x .places ++ x .registers ++ x .memory) (buffers-bytes (x .buffers)) cells buffers
 
   pub slot-bytes-equal : (x y : State) → WellFormed j x → WellFormed j y → slot-bytes x ≡ slot-bytes y → x ≡ y
   unfolding slot-bytes
@@ -126,5 +113,5 @@ module _ (j : Job) (ok : JobIn j) where
       let r = append-equal (x .registers) (y .registers) _ _ (u .registers-number ∙ sym (w .registers-number)) (p .1) in
       let m = append-equal (x .memory) (y .memory) _ _ (u .memory-number ∙ sym (w .memory-number)) (r .1) in
       let n = u .buffers-number ∙ sym (w .buffers-number) in
-      let b = buffers-bytes-equal (x .buffers) (y .buffers) n (buffers-fit x u) (buffers-fit y w) (m .1) in
+      let b = buffers-bytes-equal (x .buffers) (y .buffers) n (buffers-fit j ok x u) (buffers-fit j ok y w) (m .1) in
       λ i. record { places = p .0 i; registers = r .0 i; memory = m .0 i; buffers = b i }

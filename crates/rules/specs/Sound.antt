@@ -10,15 +10,15 @@ use Rattle.rules.specs.Job.{Job}
 use Rattle.rules.specs.declared.Model.{Model}
 use Rattle.rules.specs.declared.Model.the-variants.{Sc, Tso, Pso}
 use Rattle.rules.specs.declared.Source.{Source}
-use Rattle.rules.specs.declared.Source.the-variants.{Register as FromRegister, Constant}
+use Rattle.rules.specs.declared.Source.the-variants.{Register, Constant}
 use Rattle.rules.specs.declared.Instr.{Instr}
 use Rattle.rules.specs.declared.Instr.the-variants.{Set, Add, Load, Store, Fence, Xchg, Jeq, Jmp}
 use Rattle.rules.specs.declared.Clause.{Clause}
-use Rattle.rules.specs.declared.Clause.the-variants.{Place, Register, Memory}
+use Rattle.rules.specs.declared.Clause.the-variants.{PlaceIs, RegisterIs, MemoryIs}
 
 -- "Here r is 0 to 3, v below V, p from 0 to n"; constants are values
 abbrev pub SourceIn : Source → Type 0
-SourceIn (FromRegister r) = r < registers-each
+SourceIn (Register r) = r < registers-each
 SourceIn (Constant k) = k < values
 
 abbrev pub InstrIn : (vars n : ℕ) → Instr → Type 0
@@ -32,9 +32,9 @@ InstrIn vars n (Jeq r p k) = (r < registers-each) × (p ≤ n) × (k < values)
 InstrIn vars n (Jmp p) = p ≤ n
 
 abbrev pub ClauseIn : (vars : ℕ) → List (List Instr) → Clause → Type 0
-ClauseIn vars threads (Place t p) = (t < length threads) × (p ≤ length (getD threads t []))
-ClauseIn vars threads (Register t r k) = (t < length threads) × (r < registers-each) × (k < values)
-ClauseIn vars threads (Memory v k) = (v < vars) × (k < values)
+ClauseIn vars threads (PlaceIs t p) = (t < length threads) × (p ≤ length (getD threads t []))
+ClauseIn vars threads (RegisterIs t r k) = (t < length threads) × (r < registers-each) × (k < values)
+ClauseIn vars threads (MemoryIs v k) = (v < vars) × (k < values)
 
 -- "SC (model 0, C must be 0)"; else 1 to 8
 abbrev pub CapacityIn : Model → ℕ → Type 0

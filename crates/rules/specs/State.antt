@@ -1,8 +1,6 @@
 -- A machine state: 01, "The machine".
-use mathlib.Core.Bool.{Bool, true, false, _&&_}
-use mathlib.Core.List.{List, [], _∷_}
+use mathlib.Core.List.{List, []}
 use Prim.Native.Nat.{ℕ, _+_, _*_}
-use lib.Dec.{eqb}
 use lib.ListN.{getD, set}
 use Rattle.rules.specs.Limits.{registers-each}
 
@@ -48,20 +46,3 @@ with-variable v k x = record { places = x .places; registers = x .registers; mem
 
 unfoldable pub with-buffer : ℕ → List Pending → State → State
 with-buffer t b x = record { places = x .places; registers = x .registers; memory = x .memory; buffers = set (x .buffers) t b }
-
--- the equality test of states
-unfoldable pub same-list : {A : Type 0} → (A → A → Bool) → List A → List A → Bool
-same-list same [] [] = true
-same-list same [] (y ∷ m) = false
-same-list same (x ∷ l) [] = false
-same-list same (x ∷ l) (y ∷ m) = same x y && same-list same l m
-
-unfoldable pub same-pending : Pending → Pending → Bool
-same-pending p q = eqb (p .variable) (q .variable) && eqb (p .value) (q .value)
-
-unfoldable pub same-state : State → State → Bool
-same-state x y =
-    same-list eqb (x .places) (y .places)
-    && same-list eqb (x .registers) (y .registers)
-    && same-list eqb (x .memory) (y .memory)
-    && same-list (same-list same-pending) (x .buffers) (y .buffers)

@@ -1,5 +1,5 @@
--- One step of the machine under each model: 01, "The machine" and "Memory rules". Rules i to ix are those of source document 003.
-use mathlib.Core.Bool.{Bool, true, false, cond}
+-- One step of the machine under each model: 01, "The machine" and "Memory rules". Rules i to vii are those of source document 003, of a TSO buffer; under SC and PSO 01 changes iv and v.
+use mathlib.Core.Bool.{Bool, true, false, cond, _&&_, _||_}
 use mathlib.Core.List.{List, [], _∷_, _++_}
 use mathlib.Core.Option.{Option, none, some}
 use Prim.Native.Nat.{ℕ, zero, suc, _+_, _-_, _/_, _%_, _^_}
@@ -9,12 +9,17 @@ use Rattle.reach.specs.System.{andThen}
 use Rattle.rules.specs.Limits.{values, most-threads, most-variables, step-bound}
 use Rattle.rules.specs.State.{Pending, State, place, register, variable, buffer, with-place, with-register, with-variable, with-buffer}
 use Rattle.rules.specs.Job.{Job}
+use Rattle.rules.specs.Kinds.{control-of, wait-of}
 use Rattle.rules.specs.declared.Model.{Model}
 use Rattle.rules.specs.declared.Model.the-variants.{Sc, Tso, Pso}
 use Rattle.rules.specs.declared.Source.{Source}
 use Rattle.rules.specs.declared.Source.the-variants.{Register, Constant}
 use Rattle.rules.specs.declared.Instr.{Instr}
 use Rattle.rules.specs.declared.Instr.the-variants.{Set, Add, Load, Store, Fence, Xchg, Jeq, Jmp}
+use Rattle.rules.specs.declared.Control.{Control}
+use Rattle.rules.specs.declared.Control.the-variants.{On, To, ToIf}
+use Rattle.rules.specs.declared.Wait.{Wait}
+use Rattle.rules.specs.declared.Wait.the-variants.{Never, ForRoom, UntilEmpty}
 
 -- what is given if the test holds
 abbrev pub given : {A : Type 0} → Bool → A → Option A
@@ -33,107 +38,142 @@ unfoldable pub by-variable : Pending → List Pending → List Pending
 by-variable q [] = q ∷ []
 by-variable q (p ∷ b) = cond (leb (p .variable) (q .variable)) (p ∷ by-variable q b) (q ∷ p ∷ b)
 
--- a store joins the buffer: rule iv. TSO: at the end. (Under SC no store is ever pending.)
-unfoldable pub joined : Model → Pending → List Pending → List Pending
-joined Sc q b = b
-joined Tso q b = b ++ (q ∷ [])
-joined Pso q b = by-variable q b
+-- "a flush takes the oldest pending store to a chosen variable": its value, and the stores that are left. (0 where none is pending to v.)
+unfoldable pub oldest-to : ℕ → List Pending → ℕ
+oldest-to v [] = 0
+oldest-to v (p ∷ b) = cond (eqb (p .variable) v) (p .value) (oldest-to v b)
 
--- what a flush takes from a buffer, and what it leaves
-pub record Taken : Type 0 where
-  pub value : ℕ
-  pub rest : List Pending
-
--- TSO: "A flush moves the thread's oldest pending store to memory", "only the oldest store's v is enabled": rule v
-unfoldable pub take-oldest : ℕ → List Pending → Option Taken
-take-oldest v [] = none
-take-oldest v (p ∷ b) = given (eqb (p .variable) v) (record { value = p .value; rest = b })
-
-unfoldable pub behind : Pending → Taken → Option Taken
-behind p t = some (record { value = t .value; rest = p ∷ t .rest })
-
--- PSO: "a flush takes the oldest pending store to a chosen variable"
-unfoldable pub take-oldest-to : ℕ → List Pending → Option Taken
-take-oldest-to v [] = none
-take-oldest-to v (p ∷ b) =
-    cond (eqb (p .variable) v) (some (record { value = p .value; rest = b })) (andThen (take-oldest-to v b) (behind p))
-
--- SC: "No flush steps."
-unfoldable pub taken : Model → ℕ → List Pending → Option Taken
-taken Sc v b = none
-taken Tso v b = take-oldest v b
-taken Pso v b = take-oldest-to v b
+unfoldable pub without-oldest-to : ℕ → List Pending → List Pending
+without-oldest-to v [] = []
+without-oldest-to v (p ∷ b) = cond (eqb (p .variable) v) b (p ∷ without-oldest-to v b)
 
 unfoldable pub is-empty : List Pending → Bool
 is-empty [] = true
 is-empty (p ∷ b) = false
 
--- Instructions. "then the next place, unless it jumps"
-unfoldable pub advanced : ℕ → State → State
-advanced t x = with-place t (suc (place t x)) x
+-- Which steps may be taken: decided here alone.
+
+-- SC: "Stores go straight to memory." TSO: "it waits while C stores are pending". PSO: "C counts all of a thread's pending stores."
+unfoldable pub has-room : Model → (capacity : ℕ) → List Pending → Bool
+has-room Sc capacity b = true
+has-room Tso capacity b = ltb (length b) capacity
+has-room Pso capacity b = ltb (length b) capacity
+
+-- what an instruction waits for is there, if these stores of its thread are pending
+unfoldable pub free : Model → (capacity : ℕ) → Wait → List Pending → Bool
+free m capacity Never b = true
+free m capacity ForRoom b = has-room m capacity b
+free m capacity UntilEmpty b = is-empty b
+
+-- "An ended or waiting thread has no execute step": there is no instruction at place n, and none for a thread that the job doesn't have
+unfoldable pub may-execute : Model → (capacity : ℕ) → Option Instr → List Pending → Bool
+may-execute m capacity none b = false
+may-execute m capacity (some i) b = free m capacity (wait-of i) b
+
+-- is a store to v pending?
+unfoldable pub is-pending-to : ℕ → List Pending → Bool
+is-pending-to v [] = false
+is-pending-to v (p ∷ b) = eqb (p .variable) v || is-pending-to v b
+
+-- is the oldest pending store one to v?
+unfoldable pub is-oldest-to : ℕ → List Pending → Bool
+is-oldest-to v [] = false
+is-oldest-to v (p ∷ b) = eqb (p .variable) v
+
+-- SC: "No flush steps." TSO: "only the oldest store's v is enabled". PSO: "the oldest pending store to a chosen variable". "Ended threads still flush."
+unfoldable pub may-flush : Model → ℕ → List Pending → Bool
+may-flush Sc v b = false
+may-flush Tso v b = is-oldest-to v b
+may-flush Pso v b = is-pending-to v b
+
+-- What a step does, once it may be taken.
 
 -- what a store carries
 unfoldable pub carried : ℕ → State → Source → ℕ
 carried t x (Register r) = register t r x
 carried t x (Constant k) = k
 
--- TSO and PSO: a store joins its thread's buffer; "it waits while C stores are pending", "C counts all of a thread's pending stores"
-unfoldable pub buffered : Model → (capacity t v k : ℕ) → State → Option State
-buffered m capacity t v k x =
-    given (ltb (length (buffer t x)) capacity)
-    (with-buffer t (joined m (record { variable = v; value = k }) (buffer t x)) x)
+-- a store: SC "straight to memory"; TSO "joins the end of its thread's buffer" (rule iv); PSO "kept by variable number"
+unfoldable pub stored : Model → (t v k : ℕ) → State → State
+stored Sc t v k x = with-variable v k x
+stored Tso t v k x = with-buffer t (buffer t x ++ (record { variable = v; value = k } ∷ [])) x
+stored Pso t v k x = with-buffer t (by-variable (record { variable = v; value = k }) (buffer t x)) x
 
--- SC: "Stores go straight to memory."
-unfoldable pub stored : Model → (capacity t v k : ℕ) → State → Option State
-stored Sc capacity t v k x = some (with-variable v k x)
-stored Tso capacity t v k x = buffered Tso capacity t v k x
-stored Pso capacity t v k x = buffered Pso capacity t v k x
-
--- what instruction i of thread t does, or none while it waits
-unfoldable pub executed : Model → (capacity t : ℕ) → Instr → State → Option State
+-- what instruction i of thread t does to registers, memory and its buffer
+unfoldable pub changed : Model → (t : ℕ) → Instr → State → State
 -- SET: "register r becomes k": rule vi
-executed m c t (Set r k) x = some (advanced t (with-register t r k x))
+changed m t (Set r k) x = with-register t r k x
 -- ADD: "register r becomes (r + k) mod 256": rules iii and vi
-executed m c t (Add r k) x = some (advanced t (with-register t r ((register t r x + k) % values) x))
+changed m t (Add r k) x = with-register t r ((register t r x + k) % values) x
 -- LOAD: "r takes variable v": rules i, ii and vi
-executed m c t (Load r v) x = some (advanced t (with-register t r (newest v (variable v x) (buffer t x)) x))
+changed m t (Load r v) x = with-register t r (newest v (variable v x) (buffer t x)) x
 -- STORE, STOREK: "store register r to v", "store k to v": rules iii and iv, bounded by C
-executed m c t (Store a v) x = andThen (stored m c t v (carried t x a) x) (λ y. some (advanced t y))
--- FENCE: "waits until the own buffer is empty": rule vii
-executed m c t Fence x = given (is-empty (buffer t x)) (advanced t x)
--- XCHG: "waits likewise; then r and memory's v change places in one step": rules viii and ix, begun and ended in one step
-executed m c t (Xchg r v) x =
-    given (is-empty (buffer t x)) (advanced t (with-register t r (variable v x) (with-variable v (register t r x) x)))
--- JEQ: "to place p if r = k"
-executed m c t (Jeq r p k) x = some (cond (eqb (register t r x) k) (with-place t p x) (advanced t x))
--- JMP: "to place p"
-executed m c t (Jmp p) x = some (with-place t p x)
+changed m t (Store a v) x = stored m t v (carried t x a) x
+-- FENCE only waits: rule vii
+changed m t Fence x = x
+-- XCHG: "r and memory's v change places in one step"
+changed m t (Xchg r v) x = with-register t r (variable v x) (with-variable v (register t r x) x)
+-- JEQ and JMP only move
+changed m t (Jeq r p k) x = x
+changed m t (Jmp p) x = x
 
--- "An ended or waiting thread has no execute step": there is no instruction at place n, and none for a thread that the job doesn't have
-unfoldable pub execute : Job → ℕ → State → Option State
-execute j t x = andThen (getElem? (j .threads) t) (λ code. andThen (getElem? code (place t x)) (λ i. executed (j .model) (j .capacity) t i x))
+-- the place to which thread t then goes on
+unfoldable pub place-after : ℕ → Control → State → ℕ
+place-after t On x = suc (place t x)
+place-after t (To p) x = p
+place-after t (ToIf r k p) x = cond (eqb (register t r x) k) p (suc (place t x))
 
--- a flush of thread t's store to v: rule v. "Ended threads still flush."
-unfoldable pub flush : Job → (t v : ℕ) → State → Option State
-flush j t v x = andThen (taken (j .model) v (buffer t x)) (λ p. some (with-buffer t (p .rest) (with-variable v (p .value) x)))
+unfoldable pub executed : Model → (t : ℕ) → Instr → State → State
+executed m t i x = with-place t (place-after t (control-of i) x) (changed m t i x)
+
+-- a flush of thread t's store to v (TSO: rule v)
+unfoldable pub flushed : (t v : ℕ) → State → State
+flushed t v x = with-buffer t (without-oldest-to v (buffer t x)) (with-variable v (oldest-to v (buffer t x)) x)
+
+-- The steps of a job's machine, by number.
+
+-- what stands at place p of thread t
+unfoldable pub instruction-at : Job → (t p : ℕ) → Option Instr
+instruction-at j t p = andThen (getElem? (j .threads) t) (λ code. getElem? code p)
 
 -- "Step numbers: t (0 to 3) executes one instruction of thread t; 4 + 8t + v flushes thread t's store to v."
-unfoldable pub next : Job → ℕ → State → Option State
-next j s x =
+unfoldable pub flush-thread : ℕ → ℕ
+flush-thread s = (s - most-threads) / most-variables
+
+unfoldable pub flush-variable : ℕ → ℕ
+flush-variable s = (s - most-threads) % most-variables
+
+-- may step s be taken?
+unfoldable pub may : Job → ℕ → State → Bool
+may j s x =
     cond (ltb s most-threads)
-    (execute j s x)
-    (cond (ltb s step-bound)
-    (flush j ((s - most-threads) / most-variables) ((s - most-threads) % most-variables) x)
-    none)
+    (may-execute (j .model) (j .capacity) (instruction-at j s (place s x)) (buffer s x))
+    (ltb s step-bound && may-flush (j .model) (flush-variable s) (buffer (flush-thread s) x))
+
+-- the state after instruction i of thread t, if there is one
+unfoldable pub after-execute : Model → (t : ℕ) → Option Instr → State → State
+after-execute m t none x = x
+after-execute m t (some i) x = executed m t i x
+
+-- the state after step s, where it may be taken; where not, nothing is meant by it
+unfoldable pub after : Job → ℕ → State → State
+after j s x =
+    cond (ltb s most-threads)
+    (after-execute (j .model) s (instruction-at j s (place s x)) x)
+    (flushed (flush-thread s) (flush-variable s) x)
+
+-- a step: the state after it, or none if it may not be taken
+unfoldable pub next : Job → ℕ → State → Option State
+next j s x = given (may j s x) (after j s x)
 
 -- "The enabled steps are one 64-bit number; bit s is set when step s may be taken."
-abbrev pub bit : {A : Type 0} → Option A → ℕ → ℕ
-bit none s = 0
-bit (some a) s = 2 ^ s
+abbrev pub bit : Bool → ℕ → ℕ
+bit true s = 2 ^ s
+bit false s = 0
 
 unfoldable pub enabled-below : Job → State → ℕ → ℕ
 enabled-below j x zero = 0
-enabled-below j x (suc s) = enabled-below j x s + bit (next j s x) s
+enabled-below j x (suc s) = enabled-below j x s + bit (may j s x) s
 
 unfoldable pub enabled : Job → State → ℕ
 enabled j x = enabled-below j x step-bound

@@ -1,7 +1,10 @@
--- Laws of tests that are joined by `&&`.
+-- Laws of tests: those joined by `&&`, and what is given if a test holds.
+use mathlib.Core.Path.{_≡_, refl, sym}
 use mathlib.Core.Logic.{_↔_}
-use mathlib.Core.Bool.{Bool, true, false, _&&_}
+use mathlib.Core.Bool.{Bool, true, false, _&&_, false≢true}
+use mathlib.Core.Option.{none, some, Option·none-ne-some}
 use lib.Dec.{T}
+use Rattle.rules.specs.Step.{given}
 
 pub both-iff : (a b : Bool) → T (a && b) ↔ (T a × T b)
 both-iff true b = (λ h. (tt, h), λ h. h .1)
@@ -24,3 +27,16 @@ four a b c d h = let p = both (a && b && c) d h in let q = three a b c (p .0) in
 
 pub of-four : (a b c d : Bool) → T a → T b → T c → T d → T (a && b && c && d)
 of-four a b c d h k m n = of-both (a && b && c) d (of-three a b c h k m) n
+
+pub both-true : (a b : Bool) → (a && b) ≡ true → (a ≡ true) × (b ≡ true)
+both-true true b h = (refl, h)
+both-true false b h = absurd (false≢true h)
+
+-- what was given is the value, and the test holds
+pub given-some : {A : Type 0} (b : Bool) (a c : A) → given b a ≡ some c → (b ≡ true) × (a ≡ c)
+given-some true a c e = (refl, cc)
+given-some false a c e = absurd (Option·none-ne-some c e)
+
+pub given-none : {A : Type 0} (b : Bool) (a : A) → given b a ≡ none → b ≡ false
+given-none true a e = absurd (Option·none-ne-some a (sym e))
+given-none false a e = refl

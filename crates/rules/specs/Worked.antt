@@ -2,35 +2,36 @@
 use mathlib.Core.Path.{_≡_, refl, sym, ap, subst}
 use mathlib.Core.Bool.{Bool, true, false, _&&_}
 use mathlib.Core.List.{List, [], _∷_, _++_}
-use Prim.Native.Nat.{ℕ, suc, _+_, _^_, _≤_}
-use native.Mathlib.Omega.{arith}
+use Prim.Native.Nat.{ℕ, _+_, _^_, _≤_}
 use lib.Dec.{T, eqb, leb, eqb→eq, leb→le}
 use lib.ListN.{length, set, take, replicate}
 use Rattle.reach.specs.Lists.{All}
-use Rattle.reach.specs.System.{System}
-use Rattle.reach.specs.Meaning.{LeadsTo, AtMost, Reached, Counts, Answer, reachable, unreachable, unknown, Outcome, MeansAt}
+use Rattle.reach.specs.Meaning.{LeadsTo, AtMost, Reached, Counts, Answer, reachable, unreachable, unknown, MeansAt, Brings, Outnumber}
 use Rattle.reach.specs.Rows.{start-row, offer-of, offer, offers-below, offers, known, goal-row, keep, keep-new, put-unless, put, put-all}
 use Rattle.reach.specs.Rows.{outcome, by-goal, by-rest, by-room, levels, find}
 use Rattle.reach.specs.Found.{find-means}
-use Rattle.reach.specs.Promise.{Brings, brings, never, Outnumber, unknown-exactly}
-use Rattle.reach.specs.Replay.{Replayed, reaches, falls-short, stuck, ReplayMeans, at-end, replay-from, replay, replay-means}
+use Rattle.reach.specs.Promise.{brings, never, unknown-exactly}
+use Rattle.reach.specs.Replay.{Replayed, reaches, falls-short, stuck, ReplaysTo, at-end, replay-from, replay}
+use Rattle.reach.specs.ReplayLaws.{replay-means}
 use Rattle.rules.specs.Limits.{longest-file, slot-size, step-bound, most-slots}
 use Rattle.rules.specs.Slot.{pair-bytes, buffer-bytes, buffers-bytes, slot-bytes}
 use Rattle.rules.specs.State.{State, place, register, variable, buffer, with-place, with-register, with-variable, with-buffer}
-use Rattle.rules.specs.State.{same-list, same-pending, same-state}
 use Rattle.rules.specs.Job.{Job, start}
-use Rattle.rules.specs.Step.{newest, by-variable, joined, take-oldest, behind, take-oldest-to, taken, is-empty, advanced, carried}
-use Rattle.rules.specs.Step.{buffered, stored, executed, execute, flush, next, enabled-below, enabled}
+use Rattle.rules.specs.Kinds.{control-of, wait-of, role-of}
+use Rattle.rules.specs.Step.{newest, by-variable, oldest-to, without-oldest-to, is-empty, has-room, free, may-execute, is-pending-to}
+use Rattle.rules.specs.Step.{is-oldest-to, may-flush, carried, stored, changed, place-after, executed, flushed, instruction-at}
+use Rattle.rules.specs.Step.{flush-thread, flush-variable, may, after-execute, after, next, enabled-below, enabled}
 use Rattle.rules.specs.Goal.{every, clause-holds, goal}
-use Rattle.rules.specs.File.{after, _>>=_, done, times, judged, byte, item, field, model-of, in-range, capacity-of, register-ok, zero-ok}
+use Rattle.rules.specs.File.{read-on, _>>=_, done, times, judged, byte, item, field, model-of, in-range, capacity-of, register-ok, zero-ok}
 use Rattle.rules.specs.File.{instruction-of, instruction, thread, flag-of, clause-of, clause, ended, fields, length-ok}
 use Rattle.rules.specs.File.{Decoded, accepted, refused, decoded, decode}
 use Rattle.rules.specs.Tests.{both, three}
-use Rattle.rules.specs.Jobs.{p1, p2, p3, p4, p5, p6, p7, p8, p9, p10, p12, own-newest, fence-waits, exchange, jump-over, either-order, oldest-first, stored-register, exchange-between, ends-and-moves, back-around, past-a-load, next-of-two, over-a-fence}
+use Rattle.rules.specs.Jobs.{p1, p2, p3, p4, p5, p6, p7, p8, p9, p10, p12, waits-apart, three-to-one, own-newest, fence-waits, exchange, jump-over, either-order, oldest-first, stored-register, exchange-between, ends-and-moves, back-around, past-a-load, next-of-two, over-a-fence}
 use Rattle.rules.specs.Jobs.{in-memory, other-registers, widest, eight-sets, thirty-two, four-clauses, full-thread, fullest, too-long, cut, cut-unknown, left-over}
-use Rattle.rules.specs.Machine.{machine, same-list-equal}
-use Rattle.rules.specs.Fences.{onward, onward-at, successors, is-store, is-load, is-fence, Fenced, fenced, open-at, FenceMeans}
-use Rattle.rules.specs.FenceCheck.{move, targets-below, landings, found, leads, or-else, first-below, open-test, open-loads, open-stores}
+use Rattle.rules.specs.Machine.{machine}
+use Rattle.rules.specs.Same.{same-list, same-pending, same-state, same-list-equal, searchable}
+use Rattle.rules.specs.Fences.{onward, onward-at, successors, role-at, Checked, fenced, open-at, ChecksTo}
+use Rattle.rules.specs.FenceCheck.{role-number, same-role, move, targets-below, landings, found, leads, or-else, first-below, open-test, open-loads, open-stores}
 use Rattle.rules.specs.FenceCheck.{open-threads, fence-answer, fence-check, fence-check-means}
 
 -- what the list says of a job
@@ -38,7 +39,7 @@ pub data Claim : Type 0 where
   search-reaches : (states : ℕ) (schedule : List ℕ) → Claim
   search-never : (states : ℕ) → Claim
   search-unknown : Claim
-  fences-say : Fenced → Claim
+  fences-say : Checked → Claim
   replay-says : (schedule : List ℕ) → Replayed → Claim
   refuses : (number offset : ℕ) → Claim
 
@@ -94,6 +95,13 @@ table =
     ∷ case 640 (set p1 10 0x0A) (refuses 4 10)
     -- beyond the list; these counts were worked by a checker written apart, as were the 25, 20, 23 and 31 of P6 to P9
     ∷ case 640 own-newest (search-never 9)
+    -- the same under PSO
+    ∷ case 640 (set own-newest 3 0x02) (search-never 9)
+    -- only a store, FENCE and XCHG wait, a FENCE for an empty buffer; the oldest store is y's
+    ∷ case 640 waits-apart (replay-says (0x00 ∷ 0x00 ∷ 0x00 ∷ 0x00 ∷ 0x04 ∷ []) (stuck 4))
+    ∷ case 640 waits-apart (replay-says (0x00 ∷ 0x00 ∷ 0x00 ∷ 0x00 ∷ 0x05 ∷ 0x00 ∷ []) (stuck 5))
+    -- C counts stores, not variables
+    ∷ case 640 three-to-one (replay-says (0x00 ∷ 0x00 ∷ 0x00 ∷ []) (stuck 2))
     ∷ case 640 fence-waits (search-reaches 4 (0x00 ∷ 0x04 ∷ 0x00 ∷ []))
     ∷ case 640 exchange (search-reaches 5 (0x00 ∷ 0x00 ∷ 0x04 ∷ 0x00 ∷ []))
     ∷ case 640 jump-over (search-reaches 3 (0x00 ∷ 0x00 ∷ []))
@@ -195,8 +203,8 @@ module _ (j : Job) (N : ℕ) where
   Says (search-reaches n w) = Brings (machine j) (length w) w × Counts (AtMost (machine j) (length w)) n × (n ≤ N)
   Says (search-never n) = Never × Counts (Reached (machine j)) n × (n ≤ N)
   Says search-unknown = Outnumber (machine j) N
-  Says (fences-say a) = FenceMeans j a
-  Says (replay-says w a) = ReplayMeans (machine j) w a
+  Says (fences-say a) = ChecksTo (j .threads) a
+  Says (replay-says w a) = ReplaysTo (machine j) w a
   Says (refuses number offset) = ⊥
 
 -- a refused job has no claim but its refusal
@@ -224,7 +232,7 @@ answer-unknown (reachable e m) = false
 answer-unknown (unreachable m) = false
 answer-unknown (unknown m) = true
 
-same-fenced : Fenced → Fenced → Bool
+same-fenced : Checked → Checked → Bool
 same-fenced fenced fenced = true
 same-fenced fenced (open-at t s l) = false
 same-fenced (open-at t s l) fenced = false
@@ -242,10 +250,10 @@ same-replayed (stuck i) falls-short = false
 same-replayed (stuck i) (stuck k) = eqb i k
 
 claim-test : Job → ℕ → Claim → Bool
-claim-test j N (search-reaches n w) = leb 1 N && answer-reaches (length w) n (find (machine j) N .answer) && same-list eqb (find (machine j) N .schedule) w
-claim-test j N (search-never n) = leb 1 N && answer-never n (find (machine j) N .answer)
-claim-test j N search-unknown = leb 1 N && answer-unknown (find (machine j) N .answer)
-claim-test j N (fences-say a) = same-fenced (fence-check j) a
+claim-test j N (search-reaches n w) = leb 1 N && answer-reaches (length w) n (find (searchable j) N .answer) && same-list eqb (find (searchable j) N .schedule) w
+claim-test j N (search-never n) = leb 1 N && answer-never n (find (searchable j) N .answer)
+claim-test j N search-unknown = leb 1 N && answer-unknown (find (searchable j) N .answer)
+claim-test j N (fences-say a) = same-fenced (fence-check (j .threads)) a
 claim-test j N (replay-says w a) = same-replayed (replay (machine j) w) a
 claim-test j N (refuses number offset) = false
 
@@ -267,55 +275,55 @@ case-test c = decoded-test (c .slots) (c .claim) (decode (c .bytes))
 -- The test is right.
 
 module _ (j : Job) (N : ℕ) where
-  means : 1 ≤ N → (a : Answer) → find (machine j) N .answer ≡ a → MeansAt (machine j) N a (find (machine j) N)
-  means h a e = subst (λ z. MeansAt (machine j) N z (find (machine j) N)) e (find-means (machine j) N h)
+  means : 1 ≤ N → (a : Answer) → find (searchable j) N .answer ≡ a → MeansAt (machine j) N a (find (searchable j) N)
+  means h a e = subst (λ z. MeansAt (machine j) N z (find (searchable j) N)) e (find-means (searchable j) N h)
 
   reaches-right :
-      (n : ℕ) (w : List ℕ) → 1 ≤ N → T (answer-reaches (length w) n (find (machine j) N .answer)) → find (machine j) N .schedule ≡ w →
+      (n : ℕ) (w : List ℕ) → 1 ≤ N → T (answer-reaches (length w) n (find (searchable j) N .answer)) → find (searchable j) N .schedule ≡ w →
       Says j N (search-reaches n w)
   unfolding answer-reaches
-  reaches-right n w h t s = which (find (machine j) N .answer) refl t
+  reaches-right n w h t s = which (find (searchable j) N .answer) refl t
     where
-      which : (a : Answer) → find (machine j) N .answer ≡ a → T (answer-reaches (length w) n a) → Says j N (search-reaches n w)
+      which : (a : Answer) → find (searchable j) N .answer ≡ a → T (answer-reaches (length w) n a) → Says j N (search-reaches n w)
       which (reachable d m) e t =
           let p = both (eqb (length w) d) (eqb n m) t in
           let c : d ≡ length w = sym (eqb→eq (length w) d (p .0)) in
           let k : m ≡ n = sym (eqb→eq n m (p .1)) in
           let r = means h (reachable d m) e in (
-            subst (λ z. Brings (machine j) (length w) z) s (subst (λ z. Brings (machine j) z (find (machine j) N .schedule)) c (brings (machine j) N d m (find (machine j) N) r)),
+            subst (λ z. Brings (machine j) (length w) z) s (subst (λ z. Brings (machine j) z (find (searchable j) N .schedule)) c (brings (machine j) N d m (find (searchable j) N) r)),
             subst (λ z. Counts (AtMost (machine j) (length w)) z) k (subst (λ z. Counts (AtMost (machine j) z) m) c (r .counted)),
             subst (λ z. z ≤ N) k (r .fits),
           )
       which (unreachable m) e t = absurd t
       which (unknown m) e t = absurd t
 
-  never-right : (n : ℕ) → 1 ≤ N → T (answer-never n (find (machine j) N .answer)) → Says j N (search-never n)
+  never-right : (n : ℕ) → 1 ≤ N → T (answer-never n (find (searchable j) N .answer)) → Says j N (search-never n)
   unfolding answer-never
-  never-right n h t = which (find (machine j) N .answer) refl t
+  never-right n h t = which (find (searchable j) N .answer) refl t
     where
-      which : (a : Answer) → find (machine j) N .answer ≡ a → T (answer-never n a) → Says j N (search-never n)
+      which : (a : Answer) → find (searchable j) N .answer ≡ a → T (answer-never n a) → Says j N (search-never n)
       which (reachable d m) e t = absurd t
       which (unreachable m) e t =
           let r = means h (unreachable m) e in
           let k : m ≡ n = sym (eqb→eq n m t) in (
-            never (machine j) N m (find (machine j) N) r,
+            never (machine j) N m (find (searchable j) N) r,
             subst (λ z. Counts (Reached (machine j)) z) k (r .counted),
             subst (λ z. z ≤ N) k (r .fits),
           )
       which (unknown m) e t = absurd t
 
-  unknown-right : 1 ≤ N → T (answer-unknown (find (machine j) N .answer)) → Says j N search-unknown
+  unknown-right : 1 ≤ N → T (answer-unknown (find (searchable j) N .answer)) → Says j N search-unknown
   unfolding answer-unknown
-  unknown-right h t = which (find (machine j) N .answer) refl t
+  unknown-right h t = which (find (searchable j) N .answer) refl t
     where
-      which : (a : Answer) → find (machine j) N .answer ≡ a → T (answer-unknown a) → Says j N search-unknown
+      which : (a : Answer) → find (searchable j) N .answer ≡ a → T (answer-unknown a) → Says j N search-unknown
       which (reachable d m) e t = absurd t
       which (unreachable m) e t = absurd t
       which (unknown m) e t =
           let r = means h (unknown m) e in
-          unknown-exactly (machine j) N (find (machine j) N) (find-means (machine j) N h) .0 (subst (λ z. find (machine j) N .answer ≡ unknown z) (r .gives) e)
+          unknown-exactly (searchable j) N (find (searchable j) N) (find-means (searchable j) N h) .0 (subst (λ z. find (searchable j) N .answer ≡ unknown z) (r .gives) e)
 
-  same-fenced-equal : (a b : Fenced) → T (same-fenced a b) → a ≡ b
+  same-fenced-equal : (a b : Checked) → T (same-fenced a b) → a ≡ b
   unfolding same-fenced
   same-fenced-equal fenced fenced t = refl
   same-fenced-equal fenced (open-at a b c) t = absurd t
@@ -342,18 +350,18 @@ module _ (j : Job) (N : ℕ) where
   claim-right : (m : Claim) → T (claim-test j N m) → Says j N m
   unfolding claim-test
   claim-right (search-reaches n w) t =
-      let o = find (machine j) N in
+      let o = find (searchable j) N in
       let p = three (leb 1 N) (answer-reaches (length w) n (o .answer)) (same-list eqb (o .schedule) w) t in
       reaches-right n w (leb→le 1 N (p .0)) (p .1) (same-list-equal eqb eqb→eq (o .schedule) w (p .2))
   claim-right (search-never n) t =
-      let p = both (leb 1 N) (answer-never n (find (machine j) N .answer)) t in
+      let p = both (leb 1 N) (answer-never n (find (searchable j) N .answer)) t in
       never-right n (leb→le 1 N (p .0)) (p .1)
   claim-right search-unknown t =
-      let p = both (leb 1 N) (answer-unknown (find (machine j) N .answer)) t in
+      let p = both (leb 1 N) (answer-unknown (find (searchable j) N .answer)) t in
       unknown-right (leb→le 1 N (p .0)) (p .1)
-  claim-right (fences-say a) t = subst (FenceMeans j) (same-fenced-equal (fence-check j) a t) (fence-check-means j)
+  claim-right (fences-say a) t = subst (ChecksTo (j .threads)) (same-fenced-equal (fence-check (j .threads)) a t) (fence-check-means (j .threads))
   claim-right (replay-says w a) t =
-      subst (ReplayMeans (machine j) w) (same-replayed-equal (replay (machine j) w) a t) (replay-means (machine j) w)
+      subst (ReplaysTo (machine j) w) (same-replayed-equal (replay (machine j) w) a t) (replay-means (machine j) w)
   claim-right (refuses number offset) t = absurd t
 
 refusal-right : (number offset : ℕ) (m : Claim) → T (refusal-test number offset m) → m ≡ refuses number offset
@@ -382,7 +390,7 @@ all-right (c ∷ l) t =
     (decoded-right (c .slots) (c .claim) (decode (c .bytes)) (p .0), all-right l (p .1))
 
 computed : T (every case-test table)
-unfolding every case-test table p1 p2 p3 p4 p5 p6 p7 p8 p9 p10 p12 own-newest fence-waits exchange jump-over either-order oldest-first stored-register exchange-between ends-and-moves back-around past-a-load next-of-two over-a-fence in-memory other-registers widest eight-sets thirty-two four-clauses full-thread fullest too-long cut cut-unknown left-over decoded-test claim-test refusal-test answer-reaches answer-never answer-unknown same-fenced same-replayed place register variable buffer with-place with-register with-variable with-buffer same-list same-pending same-state start newest by-variable joined take-oldest behind take-oldest-to taken is-empty advanced carried buffered stored executed execute flush next clause-holds goal start-row offer-of offer offers-below offers known goal-row keep keep-new put-unless put put-all outcome by-goal by-rest by-room levels find decode after _>>=_ done times judged byte item field model-of in-range capacity-of register-ok zero-ok instruction-of instruction thread flag-of clause-of clause ended fields length-ok decoded onward onward-at successors is-store is-load is-fence move targets-below landings found leads or-else first-below open-test open-loads open-stores open-threads fence-answer fence-check at-end replay-from replay
+unfolding every case-test table p1 p2 p3 p4 p5 p6 p7 p8 p9 p10 p12 waits-apart three-to-one own-newest fence-waits exchange jump-over either-order oldest-first stored-register exchange-between ends-and-moves back-around past-a-load next-of-two over-a-fence in-memory other-registers widest eight-sets thirty-two four-clauses full-thread fullest too-long cut cut-unknown left-over decoded-test claim-test refusal-test answer-reaches answer-never answer-unknown same-fenced same-replayed place register variable buffer with-place with-register with-variable with-buffer same-list same-pending same-state start control-of wait-of newest by-variable oldest-to without-oldest-to is-empty has-room free may-execute is-pending-to is-oldest-to may-flush carried stored changed place-after executed flushed instruction-at flush-thread flush-variable may after-execute after next clause-holds goal start-row offer-of offer offers-below offers known goal-row keep keep-new put-unless put put-all outcome by-goal by-rest by-room levels find decode read-on _>>=_ done times judged byte item field model-of in-range capacity-of register-ok zero-ok instruction-of instruction thread flag-of clause-of clause ended fields length-ok decoded onward onward-at successors role-of role-at role-number same-role move targets-below landings found leads or-else first-below open-test open-loads open-stores open-threads fence-answer fence-check at-end replay-from replay
 computed = tt
 
 -- every case of the table holds
@@ -410,8 +418,23 @@ mask-of x (accepted j) = enabled j (x j)
 mask-of x (refused number offset) = 0
 
 pub mask-is : (mask-of start (decode p1) ≡ 2 ^ 0 + 2 ^ 1) × (mask-of (λ j. one-pending) (decode p1) ≡ 2 ^ 0 + 2 ^ 1 + 2 ^ 4)
-unfolding mask-of one-pending enabled enabled-below p1 place register variable buffer with-place with-register with-variable with-buffer same-list same-pending same-state start newest by-variable joined take-oldest behind take-oldest-to taken is-empty advanced carried buffered stored executed execute flush next decode after _>>=_ done times judged byte item field model-of in-range capacity-of register-ok zero-ok instruction-of instruction thread flag-of clause-of clause ended fields length-ok decoded
+unfolding mask-of one-pending enabled enabled-below p1 place register variable buffer with-place with-register with-variable with-buffer same-list same-pending same-state start control-of wait-of newest by-variable oldest-to without-oldest-to is-empty has-room free may-execute is-pending-to is-oldest-to may-flush carried stored changed place-after executed flushed instruction-at flush-thread flush-variable may after-execute after next decode read-on _>>=_ done times judged byte item field model-of in-range capacity-of register-ok zero-ok instruction-of instruction thread flag-of clause-of clause ended fields length-ok decoded
 mask-is = (refl, refl)
+
+-- a state with another number in each part
+unfoldable pub each-apart : State
+each-apart =
+    record {
+      places = 1 ∷ 2 ∷ 3 ∷ 4 ∷ [];
+      registers = 10 ∷ 11 ∷ 12 ∷ 13 ∷ 14 ∷ 15 ∷ 16 ∷ 17 ∷ 18 ∷ 19 ∷ 20 ∷ 21 ∷ 22 ∷ 23 ∷ 24 ∷ 25 ∷ [];
+      memory = 30 ∷ 31 ∷ 32 ∷ 33 ∷ 34 ∷ 35 ∷ 36 ∷ 37 ∷ [];
+      buffers = replicate 4 [];
+    }
+
+-- "bytes 0-3 places; 4-19 registers, thread by thread; 20-27 memory"
+pub parts-are : (register 1 2 each-apart ≡ 16) × (take 28 (slot-bytes each-apart) ≡ each-apart .places ++ each-apart .registers ++ each-apart .memory)
+unfolding each-apart register slot-bytes buffers-bytes buffer-bytes pair-bytes
+parts-are = (refl, refl)
 
 pub slot-is : slot-bytes one-pending ≡ (1 ∷ 0 ∷ 0 ∷ 0 ∷ []) ++ replicate 16 0 ++ replicate 8 0 ++ (1 ∷ 0 ∷ 1 ∷ []) ++ replicate 14 0 ++ replicate 51 0
 unfolding one-pending slot-bytes buffers-bytes buffer-bytes pair-bytes

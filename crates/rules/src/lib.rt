@@ -1,5 +1,69 @@
 // The machine and the job file of 01 as definitions. The types that programs and definitions share are declared here;
-// the rules stand in specs/.
+// the rules stand in specs/. The numbers are those of specs/Limits, under the same names.
+
+// "T threads (1 to 4), V shared variables (1 to 8), 4 registers a thread, all values 0 to 255"
+pub const MOST_THREADS: u8 = 4;
+
+pub const MOST_VARIABLES: u8 = 8;
+
+pub const REGISTERS_EACH: u8 = 4;
+
+// The values of a register or a variable.
+pub const VALUES: usize = 256;
+
+// The values of a byte of the file.
+pub const BYTE_VALUES: usize = 256;
+
+// "A thread has n instructions (0 to 32)"
+pub const LONGEST_THREAD: u8 = 32;
+
+// "TSO (model 1, C is 1 to 8)", "PSO (model 2, C is 1 to 8)"
+pub const MOST_PENDING: u8 = 8;
+
+// "K at most 16"
+pub const MOST_CLAUSES: u8 = 16;
+
+// "version | 1 | 1", "version not 1"
+pub const FILE_VERSION: u8 = 1;
+
+// "Length first", then the version: "fewer than 3 bytes" are none of a job.
+pub const LENGTH_SIZE: usize = 2;
+
+pub const SHORTEST_FILE: usize = LENGTH_SIZE + 1;
+
+// Length, version, and model, C, T, V: the initial values stand behind them.
+pub const HEAD_SIZE: usize = SHORTEST_FILE + 4;
+
+// "Instructions are four bytes", and so are clauses.
+pub const ITEM_SIZE: usize = 4;
+
+// The places and the buffers of a state, a thread each, and its variables: as lengths of arrays.
+pub const THREADS: usize = MOST_THREADS as usize;
+
+pub const VARIABLES: usize = MOST_VARIABLES as usize;
+
+// "The longest file is 597 bytes": the head, the variables, the threads, flag, K, the clauses.
+pub const LONGEST_FILE: usize = HEAD_SIZE
+    + VARIABLES
+    + THREADS * (1 + ITEM_SIZE * LONGEST_THREAD as usize)
+    + 1
+    + 1
+    + ITEM_SIZE * MOST_CLAUSES as usize;
+
+pub const ALL_REGISTERS: usize = THREADS * REGISTERS_EACH as usize;
+
+// "Slot layout: bytes 0-3 places; 4-19 registers, thread by thread; 20-27 memory; then 17 bytes a thread: count, and eight pairs"
+pub const PAIRS_SIZE: usize = 2 * MOST_PENDING as usize;
+
+pub const BUFFER_SIZE: usize = 1 + PAIRS_SIZE;
+
+pub const SLOT_SIZE: usize = THREADS + ALL_REGISTERS + VARIABLES + THREADS * BUFFER_SIZE;
+
+// "t (0 to 3) executes one instruction of thread t; 4 + 8t + v flushes thread t's store to v": step numbers end before 36.
+pub const STEP_BOUND: u8 = MOST_THREADS + MOST_THREADS * MOST_VARIABLES;
+
+// "N is the smallest of table bytes / 96 rounded down, links, schedule bytes, and 65,536"
+pub const MOST_SLOTS: usize = 65536;
 
 // The memory models: 01, "Memory rules".
 pub enum Model {
@@ -26,9 +90,31 @@ pub enum Instr {
     Jmp(u8),
 }
 
+// Where an instruction goes on: the next place; to p; to p if register r is k (in the order r, k, p), else the next place.
+pub enum Control {
+    On,
+    To(u8),
+    ToIf(u8, u8, u8),
+}
+
+// What an instruction waits for in its thread's own buffer: nothing; room for one store more; that it is empty.
+pub enum Wait {
+    Never,
+    ForRoom,
+    UntilEmpty,
+}
+
+// What an instruction is to the fence check: 01, "Replay and fence check".
+pub enum Role {
+    Stores,
+    Loads,
+    Fences,
+    Other,
+}
+
 // A clause of a goal: thread and place; thread, register and value; variable and value.
 pub enum Clause {
-    Place(u8, u8),
-    Register(u8, u8, u8),
-    Memory(u8, u8),
+    PlaceIs(u8, u8),
+    RegisterIs(u8, u8, u8),
+    MemoryIs(u8, u8),
 }

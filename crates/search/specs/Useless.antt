@@ -6,19 +6,19 @@ use mathlib.Core.Option.{some}
 use Prim.Native.Nat.{ℕ, suc, _*_, _≤_}
 use native.Mathlib.Omega.{arith}
 use lib.ListN.{length, getD, take, drop, replicate}
-use Rattle.reach.specs.Meaning.{reachable, no-link}
-use Rattle.reach.specs.Stored.{slots-bytes}
+use Rattle.reach.specs.Meaning.{reachable, no-link, slots-bytes}
 use Rattle.reach.specs.Unique.{one-outcome}
 use Rattle.reach.specs.Found.{find-means}
 use Rattle.reach.specs.Rows.{start-row, offer-of, offer, offers-below, offers, known, goal-row, keep, keep-new, put-unless, put, put-all}
 use Rattle.reach.specs.Rows.{outcome, by-goal, by-rest, by-room, levels, find}
 use Rattle.rules.specs.State.{State, place, register, variable, buffer, with-place, with-register, with-variable, with-buffer}
-use Rattle.rules.specs.State.{same-list, same-pending, same-state}
+use Rattle.rules.specs.Same.{same-list, same-pending, same-state, searchable}
 use Rattle.rules.specs.Job.{Job, start}
-use Rattle.rules.specs.Step.{newest, by-variable, joined, take-oldest, behind, take-oldest-to, taken, is-empty, advanced, carried}
-use Rattle.rules.specs.Step.{buffered, stored, executed, execute, flush, next}
+use Rattle.rules.specs.Kinds.{control-of, wait-of}
+use Rattle.rules.specs.Step.{newest, by-variable, oldest-to, without-oldest-to, is-empty, has-room, free, may-execute, is-pending-to, is-oldest-to, may-flush}
+use Rattle.rules.specs.Step.{carried, stored, changed, place-after, executed, flushed, instruction-at, flush-thread, flush-variable, may, after-execute, after, next}
 use Rattle.rules.specs.Goal.{every, clause-holds, goal}
-use Rattle.rules.specs.File.{after, _>>=_, done, times, judged, byte, item, field, model-of, in-range, capacity-of, register-ok, zero-ok}
+use Rattle.rules.specs.File.{read-on, _>>=_, done, times, judged, byte, item, field, model-of, in-range, capacity-of, register-ok, zero-ok}
 use Rattle.rules.specs.File.{instruction-of, instruction, thread, flag-of, clause-of, clause, ended, fields, length-ok}
 use Rattle.rules.specs.File.{Decoded, accepted, refused, decoded, decode}
 use Rattle.rules.specs.Limits.{slot-size}
@@ -28,23 +28,26 @@ use Rattle.rules.specs.Jobs.{p1}
 use Rattle.rules.specs.declared.Model.the-variants.{Tso}
 use Rattle.rules.specs.declared.Source.the-variants.{Constant}
 use Rattle.rules.specs.declared.Instr.the-variants.{Load, Store}
-use Rattle.rules.specs.declared.Clause.the-variants.{Place, Register}
-use Rattle.search.specs.Meaning.{Lent, slots-lent, MeansWith, MeansOf, SearchMeans, IsAnswered, answer-words}
+use Rattle.rules.specs.declared.Clause.the-variants.{PlaceIs, RegisterIs}
+use Rattle.reach.specs.Words.{answer-words}
+use Rattle.lent.specs.Meaning.{Lent, IsAnswered, AnsweredWith}
+use Rattle.search.specs.Meaning.{slots-of, SearchOf, SearchPromise}
 
 -- P1, decoded
 store-buffering : Job
 store-buffering =
     record {
+      version = 1;
       model = Tso;
       capacity = 1;
       initial = 0 ∷ 0 ∷ [];
       threads = (Store (Constant 1) 0 ∷ Load 0 1 ∷ []) ∷ (Store (Constant 1) 1 ∷ Load 0 0 ∷ []) ∷ [];
       all-empty = false;
-      clauses = Place 0 2 ∷ Place 1 2 ∷ Register 0 0 0 ∷ Register 1 0 0 ∷ [];
+      clauses = PlaceIs 0 2 ∷ PlaceIs 1 2 ∷ RegisterIs 0 0 0 ∷ RegisterIs 1 0 0 ∷ [];
     }
 
 p1-is : decode p1 ≡ accepted store-buffering
-unfolding p1 store-buffering decode after _>>=_ done times judged byte item field model-of in-range capacity-of register-ok zero-ok instruction-of instruction thread flag-of clause-of clause ended fields length-ok decoded
+unfolding p1 store-buffering decode read-on _>>=_ done times judged byte item field model-of in-range capacity-of register-ok zero-ok instruction-of instruction thread flag-of clause-of clause ended fields length-ok decoded
 p1-is = refl
 
 -- 96 bytes each: places, registers, memory, four buffers
@@ -54,28 +57,28 @@ start-slot = replicate 96 0
 unfoldable pub stored-slot : List ℕ
 stored-slot = (1 ∷ []) ++ replicate 27 0 ++ (1 ∷ 0 ∷ 1 ∷ []) ++ replicate 65 0
 
-p1-found : find (machine store-buffering) 640 .answer ≡ reachable 4 22
-unfolding store-buffering place register variable buffer with-place with-register with-variable with-buffer same-list same-pending same-state start newest by-variable joined take-oldest behind take-oldest-to taken is-empty advanced carried buffered stored executed execute flush next every clause-holds goal start-row offer-of offer offers-below offers known goal-row keep keep-new put-unless put put-all outcome by-goal by-rest by-room levels find
+p1-found : find (searchable store-buffering) 640 .answer ≡ reachable 4 22
+unfolding store-buffering place register variable buffer with-place with-register with-variable with-buffer same-list same-pending same-state start control-of wait-of newest by-variable oldest-to without-oldest-to is-empty has-room free may-execute is-pending-to is-oldest-to may-flush carried stored changed place-after executed flushed instruction-at flush-thread flush-variable may after-execute after next every clause-holds goal start-row offer-of offer offers-below offers known goal-row keep keep-new put-unless put put-all outcome by-goal by-rest by-room levels find
 p1-found = refl
 
-p1-first-link : (rest : List ℕ) → getD (find (machine store-buffering) 640 .links ++ rest) 0 0 ≡ no-link
-unfolding store-buffering place register variable buffer with-place with-register with-variable with-buffer same-list same-pending same-state start newest by-variable joined take-oldest behind take-oldest-to taken is-empty advanced carried buffered stored executed execute flush next every clause-holds goal start-row offer-of offer offers-below offers known goal-row keep keep-new put-unless put put-all outcome by-goal by-rest by-room levels find
+p1-first-link : (rest : List ℕ) → getD (find (searchable store-buffering) 640 .links ++ rest) 0 0 ≡ no-link
+unfolding store-buffering place register variable buffer with-place with-register with-variable with-buffer same-list same-pending same-state start control-of wait-of newest by-variable oldest-to without-oldest-to is-empty has-room free may-execute is-pending-to is-oldest-to may-flush carried stored changed place-after executed flushed instruction-at flush-thread flush-variable may after-execute after next every clause-holds goal start-row offer-of offer offers-below offers known goal-row keep keep-new put-unless put put-all outcome by-goal by-rest by-room levels find
 p1-first-link rest = refl
 
 -- slot 0 is the start, slot 1 the state after thread 0's store: both threads at place 0; then thread 0 at place 1, with x=1 pending
-p1-first-slots : (rest : List ℕ) → take 192 (slots-bytes slot-bytes (find (machine store-buffering) 640 .slots) ++ rest) ≡ start-slot ++ stored-slot
-unfolding start-slot stored-slot slots-bytes slot-bytes buffers-bytes buffer-bytes pair-bytes store-buffering place register variable buffer with-place with-register with-variable with-buffer same-list same-pending same-state start newest by-variable joined take-oldest behind take-oldest-to taken is-empty advanced carried buffered stored executed execute flush next every clause-holds goal start-row offer-of offer offers-below offers known goal-row keep keep-new put-unless put put-all outcome by-goal by-rest by-room levels find
+p1-first-slots : (rest : List ℕ) → take 192 (slots-bytes slot-bytes (find (searchable store-buffering) 640 .slots) ++ rest) ≡ start-slot ++ stored-slot
+unfolding start-slot stored-slot slots-bytes slot-bytes buffers-bytes buffer-bytes pair-bytes store-buffering place register variable buffer with-place with-register with-variable with-buffer same-list same-pending same-state start control-of wait-of newest by-variable oldest-to without-oldest-to is-empty has-room free may-execute is-pending-to is-oldest-to may-flush carried stored changed place-after executed flushed instruction-at flush-thread flush-variable may after-execute after next every clause-holds goal start-row offer-of offer offers-below offers known goal-row keep keep-new put-unless put put-all outcome by-goal by-rest by-room levels find
 p1-first-slots rest = refl
 
 -- with 640 slots the promise for P1 allows one answer only: refusals, unknown, unreachable and other counts break it
-module _ (m m′ : Lent) (ws : List ℕ) (slots : slots-lent m ≡ 640) (h : SearchMeans p1 m ws m′) where
-  answered : IsAnswered store-buffering 640 m ws m′
-  answered = subst (λ n. MeansWith store-buffering n m ws m′) slots (subst (λ d. MeansOf d m ws m′) p1-is h)
+module _ (m m′ : Lent) (ws : List ℕ) (slots : slots-of m ≡ 640) (h : SearchPromise p1 m ws m′) where
+  answered : IsAnswered (machine store-buffering) slot-size slot-bytes 640 m ws m′
+  answered = subst (λ n. AnsweredWith (machine store-buffering) slot-size slot-bytes n m ws m′) slots (subst (λ d. SearchOf d m ws m′) p1-is h)
 
-  is-found : answered .outcome ≡ find (machine store-buffering) 640
+  is-found : answered .outcome ≡ find (searchable store-buffering) 640
   is-found =
-      one-outcome (machine store-buffering) 640 (answered .outcome) (find (machine store-buffering) 640) (answered .means)
-      (find-means (machine store-buffering) 640 (omega arith))
+      one-outcome (searchable store-buffering) 640 (answered .outcome) (find (searchable store-buffering) 640) (answered .means)
+      (find-means (searchable store-buffering) 640 (omega arith))
 
   pub p1-answer : ws ≡ 1 ∷ 4 ∷ 22 ∷ 0 ∷ []
   p1-answer = answered .answer ∙ ap (λ o. answer-words (o .answer)) is-found ∙ ap answer-words p1-found

@@ -1,21 +1,28 @@
 // Search: 01, "Search". Any bytes as a job, and three lent buffers of any lengths and contents.
 use job::Decoded;
 use job::Layout;
-use machine::State;
+use shelf::Front;
+use state::State;
 ghost use mathlib.Core.Path.{_≡_};
-ghost use mathlib.Core.List.{_++_};
-ghost use Prim.Native.Nat.{_+_, _*_, _/_, _≤_, _<_, min};
-ghost use lib.ListN.{length, drop};
-ghost use Rattle.reach.specs.WalkBack.{walk-back, Walkable};
+ghost use mathlib.Core.Bool.{true};
+ghost use Prim.Native.Nat.{ℕ, _*_, _≤_, _<_};
+ghost use lib.ListN.{length};
+ghost use Rattle.reach.specs.Meaning.{link};
+ghost use Rattle.lent.specs.Meaning.{IsAnswered, AnsweredWith};
+ghost use Rattle.lent.specs.Parts.{Stands, FirstGoal};
+ghost use Rattle.lent.specs.Kept.{Lends};
+ghost use Rattle.shelf.specs.Front.{Fits, PutDone};
 ghost use Rattle.rules.specs.Limits.{slot-size, most-slots};
+ghost use Rattle.rules.specs.File.{job-of};
+ghost use Rattle.rules.specs.Slot.{slot-bytes};
+ghost use Rattle.rules.specs.Step.{may, after};
+ghost use Rattle.rules.specs.Machine.{machine};
 ghost use Rattle.job.specs.Laid.{IsAccepted};
-ghost use Rattle.machine.specs.Held.{StateOk};
+ghost use Rattle.state.specs.Held.{held};
 ghost use Rattle.engine.specs.At.{At};
-ghost use Rattle.search.specs.Meaning.{words, slots-lent, MeansWith, SearchMeans};
-ghost use Rattle.search.specs.Kept.{Lends};
-ghost use Rattle.search.specs.Going.{Begun, Done};
-ghost use Rattle.search.specs.Begin.{first-front, Begins};
-ghost use Rattle.search.specs.Loops.{memory, Fits, Looked, PutDone, StepDone, Live, ExpandDone, LevelDone, GoalDone};
+ghost use Rattle.search.specs.Meaning.{words, slots-of, SearchPromise};
+ghost use Rattle.search.specs.Coded.{coding};
+ghost use Rattle.search.specs.Whole.{ExpandDone};
 
 // What a search answers: the refusal's number and offset; d and R(d); the number of states; N.
 pub enum Answer {
@@ -25,90 +32,8 @@ pub enum Answer {
     Unknown(usize),
 }
 
-// How many slots are counted, and whether a state was met for which none was left.
-pub struct Front {
-    pub count: usize,
-    pub full: bool,
-}
-
-// The bytes of a slot.
-pub const SLOT_SIZE: usize = 96;
-
-// The link of slot 0.
-pub const NO_LINK: u32 = 4294967295;
-
-// The largest number of slots that a search uses, whatever is lent.
-pub const MOST_SLOTS: usize = 65536;
-
-fn smaller(a: usize, b: usize) -> usize
-    ensures { λ r. ⌜ r ≡ min a b ⌝ }
-{
-    if a < b { a } else { b }
-}
-
-// The links are walked back from slot `from` to write the schedule, its last step first.
-fn write_schedule(schedule: &mut [u8], links: &[u32], steps: usize, from: usize)
-    requires { ⌜ (steps ≤ length (now schedule)) × Walkable (now links) steps from ⌝ }
-    ensures { λ _. ⌜ now (schedule .exit) ≡ walk-back (now (links .entry)) steps from ++ drop steps (now (schedule .entry)) ⌝ }
-{
-    let mut left = steps;
-    let mut slot = from;
-    while 0 < left {
-        let link = links[slot];
-        left -= 1;
-        schedule[left] = (link % 64) as u8;
-        slot = (link / 64) as usize;
-    }
-}
-
-// Whether the state is in one of the counted slots.
-fn known(table: &[u8], count: usize, y: State) -> bool
-    requires { ⌜ slot-size * count ≤ length (now table) ⌝ }
-    ensures { λ r. ⌜ Looked (now (table .entry)) count y r ⌝ }
-{
-    let mut i = 0;
-    while i < count {
-        if slot::slot_is(table, i, y) {
-            return true;
-        }
-        i += 1;
-    }
-    false
-}
-
-// One state more, unless it is known or no slot is left; once one was left out, no other is taken.
-fn put(
-    table: &mut [u8],
-    links: &mut [u32],
-    front: Front,
-    slots: usize,
-    y: State,
-    link: u32,
-) -> Front
-    requires { ⌜ Fits slots (now table) (now links) front ⌝ }
-    requires { ⌜ StateOk y ⌝ }
-    ensures { λ r. ⌜ PutDone slots (now (table .entry)) (now (links .entry)) front y link (now (table .exit)) (now (links .exit)) r ⌝ }
-{
-    let count = front.count;
-    if front.full {
-        return front;
-    }
-    if known(table, count, y) {
-        return front;
-    }
-    if count == slots {
-        return Front { count, full: true };
-    }
-    slot::write_slot(table, count, y);
-    links[count] = link;
-    Front {
-        count: count + 1,
-        full: false,
-    }
-}
-
-// What step s of the state x in slot q leads to is put, if it may be taken.
-fn try_step(
+// What step s of the state x in slot q leads to is laid out and put.
+fn put_next(
     table: &mut [u8],
     links: &mut [u32],
     front: Front,
@@ -119,24 +44,22 @@ fn try_step(
     job: &[u8],
     l: Layout,
 ) -> Front
-    requires { ⌜ Fits slots (now table) (now links) front ⌝ }
-    requires { ⌜ (q < most-slots) × (s < 64) ⌝ }
+    requires { ⌜ Fits slot-size slots (now table) (now links) front ⌝ }
+    requires { ⌜ q < most-slots ⌝ }
     requires { ⌜ At (now job) l x ⌝ }
+    requires { ⌜ may (job-of (now job)) s (held x) ≡ true ⌝ }
     ensures { λ r. ⌜
-        StepDone (now (job .entry)) l slots q s x (now (table .entry)) (now (links .entry)) front (now (table .exit)) (now (links .exit)) r
+        PutDone slot-size slots (now (table .entry)) (now (links .entry)) front
+        (slot-bytes (after (job-of (now (job .entry))) s (held x))) (link q s) (now (table .exit)) (now (links .exit)) r
         ⌝ }
 {
-    let y = engine::step(job, l, x, s);
-    if y.moved {
-        let z = y.state;
-        let link = 64 * (q as u32) + (s as u32);
-        put(table, links, front, slots, z, link)
-    } else {
-        front
-    }
+    let y = engine::take(job, l, x, s);
+    let bytes = slot::bytes_of(y);
+    let link = 64 * (q as u32) + (s as u32);
+    shelf::put(table, links, front, slots, &bytes, link)
 }
 
-// What the steps of the state in slot q lead to is put, from the lowest step upward.
+// The state in slot q is expanded: its steps from the lowest upward, until no slot is left for what one leads to.
 fn expand(
     table: &mut [u8],
     links: &mut [u32],
@@ -146,11 +69,12 @@ fn expand(
     job: &[u8],
     l: Layout,
 ) -> Front
-    requires { ⌜ Fits slots (now table) (now links) front ⌝ }
-    requires { ⌜ q < front .count ⌝ }
-    requires { ⌜ Live (now job) l slots (memory (now table) (now links) front) ⌝ }
+    requires { ⌜ Fits slot-size slots (now table) (now links) front ⌝ }
+    requires { ⌜ (q < front .count) × (slots ≤ most-slots) ⌝ }
+    requires { ⌜ IsAccepted (now job) l ⌝ }
+    requires { ⌜ Stands (coding (job-of (now job))) (now table) q ⌝ }
     ensures { λ r. ⌜
-        ExpandDone (now (job .entry)) l slots q (now (table .entry)) (now (links .entry)) front (now (table .exit)) (now (links .exit)) r
+        ExpandDone (job-of (now (job .entry))) slots q (now (table .entry)) (now (links .entry)) front (now (table .exit)) (now (links .exit)) r
         ⌝ }
 {
     let x = slot::read_slot(table, q);
@@ -162,56 +86,24 @@ fn expand(
     while tried < tries {
         let s = bits::lowest(left);
         left = bits::without_lowest(left);
-        at = try_step(table, links, at, slots, q, s, x, job, l);
+        at = put_next(table, links, at, slots, q, s, x, job, l);
+        if at.full {
+            return at;
+        }
         tried += 1;
     }
     at
 }
 
-// The states from slot lo on are expanded in slot order, as many as are counted now.
-fn expand_level(
-    table: &mut [u8],
-    links: &mut [u32],
-    front: Front,
-    slots: usize,
-    lo: usize,
-    job: &[u8],
-    l: Layout,
-) -> Front
-    requires { ⌜ Fits slots (now table) (now links) front ⌝ }
-    requires { ⌜ lo ≤ front .count ⌝ }
-    requires { ⌜ Live (now job) l slots (memory (now table) (now links) front) ⌝ }
-    ensures { λ r. ⌜
-        LevelDone (now (job .entry)) l slots lo (now (table .entry)) (now (links .entry)) front (now (table .exit)) (now (links .exit)) r
-        ⌝ }
-{
-    let hi = front.count;
-    let mut q = lo;
-    let mut at = front;
-    while q < hi {
-        at = expand(table, links, at, slots, q, job, l);
-        q += 1;
-    }
-    at
-}
-
 // The first slot from lo on that holds a goal; as many as are counted where none does.
-fn find_goal(
-    table: &[u8],
-    links: &[u32],
-    front: Front,
-    slots: usize,
-    lo: usize,
-    job: &[u8],
-    l: Layout,
-) -> usize
-    requires { ⌜ Fits slots (now table) (now links) front ⌝ }
-    requires { ⌜ lo ≤ front .count ⌝ }
-    requires { ⌜ Live (now job) l slots (memory (now table) (now links) front) ⌝ }
-    ensures { λ r. ⌜ GoalDone (now (job .entry)) l slots lo (memory (now (table .entry)) (now (links .entry)) front) r ⌝ }
+fn find_goal(table: &[u8], lo: usize, count: usize, job: &[u8], l: Layout) -> usize
+    requires { ⌜ (lo ≤ count) × (slot-size * count ≤ length (now table)) ⌝ }
+    requires { ⌜ IsAccepted (now job) l ⌝ }
+    requires { ⌜ ((i : ℕ) → i < count → Stands (coding (job-of (now job))) (now table) i) ⌝ }
+    ensures { λ r. ⌜ FirstGoal (coding (job-of (now (job .entry)))) (now (table .entry)) lo count r ⌝ }
 {
     let mut i = lo;
-    while i < front.count {
+    while i < count {
         let x = slot::read_slot(table, i);
         if engine::goal(job, l, x) {
             return i;
@@ -221,8 +113,9 @@ fn find_goal(
     i
 }
 
-// Level by level, until a goal is met, nothing is left, or a state is met for which there is no slot.
-fn levels(
+// A turn judges a level that is whole, or expands one state. The states before slot `next` are expanded; those from slot `mark` on are at
+// distance d, and their level is whole when `next` has come to `mark`.
+fn turns(
     table: &mut [u8],
     links: &mut [u32],
     schedule: &mut [u8],
@@ -230,49 +123,45 @@ fn levels(
     job: &[u8],
     l: Layout,
 ) -> Answer
-    requires { ⌜ Fits slots (now table) (now links) first-front ⌝ }
-    requires { ⌜ slots ≤ length (now schedule) ⌝ }
-    requires { ⌜ Begun (now job) l slots 0 0 (memory (now table) (now links) first-front) ⌝ }
+    requires { ⌜ IsAccepted (now job) l ⌝ }
+    requires { ⌜ (0 < slots) × (slots ≤ most-slots) × (slots ≤ length (now schedule)) ⌝ }
+    requires { ⌜ Lends slot-size slots (now table) (now links) ⌝ }
     ensures { λ r. ⌜
-        Done (now (job .entry)) l slots (memory (now (table .entry)) (now (links .entry)) first-front) (now (schedule .entry)) (words r)
+        IsAnswered (machine (job-of (now (job .entry)))) slot-size slot-bytes slots
+        (record { table = now (table .entry); links = now (links .entry); schedule = now (schedule .entry) }) (words r)
         (record { table = now (table .exit); links = now (links .exit); schedule = now (schedule .exit) })
         ⌝ }
 {
-    let mut front = Front {
-        count: 1,
+    let nothing = Front {
+        count: 0,
         full: false,
     };
-    let mut lo: usize = 0;
+    let start = slot::bytes_of(engine::start(job, l));
+    let mut front = shelf::put(table, links, nothing, slots, &start, shelf::NO_LINK);
+    let mut next: usize = 0;
+    let mut mark: usize = 0;
     let mut d: usize = 0;
     loop {
-        let goal = find_goal(table, links, front, slots, lo, job, l);
-        let count = front.count;
-        if goal < count {
-            write_schedule(schedule, links, d, goal);
-            return Answer::Reachable(d, count);
+        if next < mark {
+            front = expand(table, links, front, slots, next, job, l);
+            if front.full {
+                return Answer::Unknown(slots);
+            }
+            next += 1;
+        } else {
+            let count = front.count;
+            let goal = find_goal(table, mark, count, job, l);
+            if goal < count {
+                shelf::write_schedule(schedule, links, d, goal);
+                return Answer::Reachable(d, count);
+            }
+            if count <= mark {
+                return Answer::Unreachable(count);
+            }
+            mark = count;
+            d += 1;
         }
-        if count <= lo {
-            return Answer::Unreachable(count);
-        }
-        front = expand_level(table, links, front, slots, lo, job, l);
-        if front.full {
-            return Answer::Unknown(slots);
-        }
-        lo = count;
-        d += 1;
     }
-}
-
-// The start in slot 0, with no link.
-fn begin(table: &mut [u8], links: &mut [u32], slots: usize, job: &[u8], l: Layout)
-    requires { ⌜ (0 < slots) × (slots ≤ most-slots) ⌝ }
-    requires { ⌜ Lends slots (now table) (now links) ⌝ }
-    requires { ⌜ IsAccepted (now job) l ⌝ }
-    ensures { λ _. ⌜ Begins (now (job .entry)) l slots (now (table .entry)) (now (links .entry)) (now (table .exit)) (now (links .exit)) ⌝ }
-{
-    let s = engine::start(job, l);
-    slot::write_slot(table, 0, s);
-    links[0] = NO_LINK;
 }
 
 // The search of an accepted job: N is the smallest of what the three buffers hold and 65,536.
@@ -285,32 +174,34 @@ fn search_accepted(
 ) -> Answer
     requires { ⌜ IsAccepted (now job) l ⌝ }
     ensures { λ r. ⌜
-        ((a : IsAccepted (now (job .entry)) l) →
-        MeansWith (a .job) (slots-lent (record { table = now (table .entry); links = now (links .entry); schedule = now (schedule .entry) }))
+        AnsweredWith (machine (job-of (now (job .entry)))) slot-size slot-bytes
+        (slots-of (record { table = now (table .entry); links = now (links .entry); schedule = now (schedule .entry) }))
         (record { table = now (table .entry); links = now (links .entry); schedule = now (schedule .entry) }) (words r)
-        (record { table = now (table .exit); links = now (links .exit); schedule = now (schedule .exit) }))
+        (record { table = now (table .exit); links = now (links .exit); schedule = now (schedule .exit) })
         ⌝ }
 {
-    let slots = smaller(
-        table.len() / SLOT_SIZE,
-        smaller(links.len(), smaller(schedule.len(), MOST_SLOTS)),
+    let slots = shelf::smaller(
+        table.len() / rules::SLOT_SIZE,
+        shelf::smaller(
+            links.len(),
+            shelf::smaller(schedule.len(), rules::MOST_SLOTS),
+        ),
     );
     if slots == 0 {
         return Answer::Refused(7, 0);
     }
-    begin(table, links, slots, job, l);
-    levels(table, links, schedule, slots, job, l)
+    turns(table, links, schedule, slots, job, l)
 }
 
 // The search: any bytes as a job, any lent memory, always an answer.
 pub fn search(table: &mut [u8], links: &mut [u32], schedule: &mut [u8], job: &[u8]) -> Answer
     ensures { λ r. ⌜
-        SearchMeans (now (job .entry)) (record { table = now (table .entry); links = now (links .entry); schedule = now (schedule .entry) })
+        SearchPromise (now (job .entry)) (record { table = now (table .entry); links = now (links .entry); schedule = now (schedule .entry) })
         (words r) (record { table = now (table .exit); links = now (links .exit); schedule = now (schedule .exit) })
         ⌝ }
 {
     match job::decode(job) {
-        Decoded::Accepted(l) => search_accepted(table, links, schedule, job, l),
+        Decoded::Accepted => search_accepted(table, links, schedule, job, job::layout_of(job)),
         Decoded::Refused(number, offset) => Answer::Refused(number, offset),
     }
 }

@@ -1,84 +1,35 @@
 -- How far the TSO thread may have run ahead of the SC thread, which stands where the oldest pending store was made.
-use mathlib.Core.Path.{_≡_, refl, sym, ap, subst}
-use mathlib.Core.Logic.{inl, inr}
-use mathlib.Core.Bool.{Bool, true, false, cond}
-use mathlib.Core.List.{List, [], _∷_, _++_}
+use mathlib.Core.Path.{_≡_, sym, ap, subst}
+use mathlib.Core.List.{List, [], _∷_, _++_, append-nil}
 use mathlib.Core.Option.{some}
-use Prim.Native.Nat.{ℕ, suc}
-use lib.Dec.{T, eqb}
+use Prim.Native.Nat.{ℕ}
+use native.Mathlib.Omega.{arith}
 use lib.ListN.{getElem?}
-use Rattle.reach.specs.Lists.{_∈_}
 use Rattle.rules.specs.State.{Pending}
-use Rattle.rules.specs.Fences.{onward, onward-at, successors, is-fence, Move, Walk}
+use Rattle.rules.specs.Kinds.{control-of, role-of}
+use Rattle.rules.specs.Fences.{onward-at, successors, role-at, Move, Walk}
+use Rattle.rules.specs.FenceCheck.{store-is-no-fence, role-there}
+use Rattle.rules.specs.declared.Role.the-variants.{Stores, Fences}
 use Rattle.rules.specs.declared.Source.{Source}
 use Rattle.rules.specs.declared.Instr.{Instr}
-use Rattle.rules.specs.declared.Instr.the-variants.{Set, Add, Load, Store, Fence, Xchg, Jeq, Jmp}
-use Rattle.signed.specs.Own.{Own, at-place, onwards, with-own-register, own-register, carries, after, wrote, Free}
-
--- the instructions that look at nothing but the thread's own part, and change nothing else
-pub data Quiet : Instr → Type 0 where
-  sets : {r k : ℕ} → Quiet (Set r k)
-  adds : {r k : ℕ} → Quiet (Add r k)
-  branches : {r p k : ℕ} → Quiet (Jeq r p k)
-  jumps : {p : ℕ} → Quiet (Jmp p)
-
-pub quiet-free : {i : Instr} → Quiet i → (b : List Pending) → Free i b
-quiet-free sets b = tt
-quiet-free adds b = tt
-quiet-free branches b = tt
-quiet-free jumps b = tt
-
-pub quiet-after : {i : Instr} → Quiet i → (m n : List ℕ) (o : Own) → after i m o ≡ after i n o
-unfolding after
-quiet-after sets m n o = refl
-quiet-after adds m n o = refl
-quiet-after branches m n o = refl
-quiet-after jumps m n o = refl
-
-pub quiet-wrote : {i : Instr} → Quiet i → (o : Own) (m : List ℕ) → wrote i o m ≡ m
-unfolding wrote
-quiet-wrote sets o m = refl
-quiet-wrote adds o m = refl
-quiet-wrote branches o m = refl
-quiet-wrote jumps o m = refl
-
--- every instruction moves its thread to a successor of its place: the check's walks follow the machine
-pub moves-on : (i : Instr) (m : List ℕ) (o : Own) → after i m o .place ∈ onward (o .place) i
-unfolding after onward onwards at-place with-own-register
-moves-on (Set r k) m o = inl refl
-moves-on (Add r k) m o = inl refl
-moves-on (Load r v) m o = inl refl
-moves-on (Store a v) m o = inl refl
-moves-on Fence m o = inl refl
-moves-on (Xchg r v) m o = inl refl
-moves-on (Jeq r p k) m o = either (eqb (own-register r o) k)
-  where
-    either : (b : Bool) → cond b (at-place p o) (onwards o) .place ∈ (suc (o .place) ∷ p ∷ [])
-    either true = inr (inl refl)
-    either false = inl refl
-moves-on (Jmp p) m o = inl refl
-
-quiet-no-fence : {i : Instr} → Quiet i → ¬ (T (is-fence (some i)))
-unfolding is-fence
-quiet-no-fence sets f = f
-quiet-no-fence adds f = f
-quiet-no-fence branches f = f
-quiet-no-fence jumps f = f
+use Rattle.rules.specs.declared.Instr.the-variants.{Store}
+use Rattle.signed.specs.Own.{OwnPart, at-place, onwards, carries, goes-on, goes-onward, after}
+use Rattle.signed.specs.Roles.{Quiet}
 
 -- the store that the thread makes at a STORE
-abbrev pub made : Own → Source → ℕ → Pending
+abbrev pub made : OwnPart → Source → ℕ → Pending
 made o a v = record { variable = v; value = carries o a }
 
 -- from o to q by quiet instructions and stores, of which the stores b were made
-pub data Ahead (code : List Instr) : Own → Own → List Pending → Type 0 where
-  level : {o : Own} → Ahead code o o []
-  quietly : {o q : Own} {b : List Pending} (i : Instr) (m : List ℕ)
+pub data Ahead (code : List Instr) : OwnPart → OwnPart → List Pending → Type 0 where
+  level : {o : OwnPart} → Ahead code o o []
+  quietly : {o q : OwnPart} {b : List Pending} (i : Instr) (m : List ℕ)
       → getElem? code (o .place) ≡ some i → Quiet i → Ahead code (after i m o) q b → Ahead code o q b
-  storing : {o q : Own} {b : List Pending} (a : Source) (v : ℕ)
+  storing : {o q : OwnPart} {b : List Pending} (a : Source) (v : ℕ)
       → getElem? code (o .place) ≡ some (Store a v) → Ahead code (onwards o) q b → Ahead code o q (made o a v ∷ b)
 
 -- the SC thread stands at o, the TSO thread at q, and p is the oldest of the stores that are pending
-pub record Waits (code : List Instr) (o q : Own) (p : Pending) (b : List Pending) : Type 0 where
+pub record Waits (code : List Instr) (o q : OwnPart) (p : Pending) (b : List Pending) : Type 0 where
   pub source : Source
   pub to : ℕ
   pub at-store : getElem? code (o .place) ≡ some (Store source to)
@@ -86,57 +37,65 @@ pub record Waits (code : List Instr) (o q : Own) (p : Pending) (b : List Pending
   pub ahead : Ahead code (onwards o) q b
 
 -- with nothing pending the two threads are at one
-abbrev pub Behind : List Instr → Own → Own → List Pending → Type 0
+abbrev pub Behind : List Instr → OwnPart → OwnPart → List Pending → Type 0
 Behind code o q [] = o ≡ q
 Behind code o q (p ∷ b) = Waits code o q p b
 
 module _ (code : List Instr) where
-  -- one instruction more at the far end
-  ahead-quiet : {o q : Own} {b : List Pending} (i : Instr) (m : List ℕ)
-      → getElem? code (q .place) ≡ some i → Quiet i → Ahead code o q b → Ahead code o (after i m q) b
-  ahead-quiet i m e h level = quietly i m e h level
-  ahead-quiet i m e h (quietly k n d g w) = quietly k n d g (ahead-quiet i m e h w)
-  ahead-quiet i m e h (storing a v d w) = storing a v d (ahead-quiet i m e h w)
+  -- some instructions more at the far end
+  ahead-then : {o q r : OwnPart} {b c : List Pending} → Ahead code o q b → Ahead code q r c → Ahead code o r (b ++ c)
+  ahead-then level w = w
+  ahead-then (quietly i m e h a) w = quietly i m e h (ahead-then a w)
+  ahead-then (storing s v e a) w = storing s v e (ahead-then a w)
 
-  ahead-store : {o q : Own} {b : List Pending} (a : Source) (v : ℕ)
-      → getElem? code (q .place) ≡ some (Store a v) → Ahead code o q b → Ahead code o (onwards q) (b ++ (made q a v ∷ []))
-  ahead-store a v e level = storing a v e level
-  ahead-store a v e (quietly k n d g w) = quietly k n d g (ahead-store a v e w)
-  ahead-store a v e (storing c u d w) = storing c u d (ahead-store a v e w)
+  waits-then : {o q r : OwnPart} {p : Pending} {b c : List Pending} → Waits code o q p b → Ahead code q r c → Waits code o r p (b ++ c)
+  waits-then w a = record { source = w .source; to = w .to; at-store = w .at-store; oldest = w .oldest; ahead = ahead-then (w .ahead) a }
 
-  pub waits-quiet : {o q : Own} {p : Pending} {b : List Pending} (i : Instr) (m : List ℕ)
+  pub waits-quiet : {o q : OwnPart} {p : Pending} {b : List Pending} (i : Instr) (m : List ℕ)
       → getElem? code (q .place) ≡ some i → Quiet i → Waits code o q p b → Waits code o (after i m q) p b
-  waits-quiet i m e h w =
-      record { source = w .source; to = w .to; at-store = w .at-store; oldest = w .oldest; ahead = ahead-quiet i m e h (w .ahead) }
+  waits-quiet i m e h w = rw append-nil at (waits-then w (quietly i m e h level))
 
-  pub behind-store : (o q : Own) (b : List Pending) (a : Source) (v : ℕ)
+  pub behind-store : (o q : OwnPart) (b : List Pending) (a : Source) (v : ℕ)
       → getElem? code (q .place) ≡ some (Store a v) → Behind code o q b → Behind code o (onwards q) (b ++ (made q a v ∷ []))
-  behind-store o q [] a v e w =
+  behind-store o q [] a v e same =
       record {
         source = a;
         to = v;
-        at-store = rw w e;
-        oldest = ap (λ (z : Own). made z a v) (sym w);
-        ahead = subst (λ (z : Own). Ahead code (onwards z) (onwards q) []) (sym w) level;
+        at-store = rw same e;
+        oldest = ap (λ (z : OwnPart). made z a v) (sym same);
+        ahead = subst (λ (z : OwnPart). Ahead code (onwards z) (onwards q) []) (sym same) level;
       }
-  behind-store o q (p ∷ b) a v e w =
-      record { source = w .source; to = w .to; at-store = w .at-store; oldest = w .oldest; ahead = ahead-store a v e (w .ahead) }
+  behind-store o q (p ∷ b) a v e w = waits-then w (storing a v e level)
 
   -- Walks: the places between are those of quiet instructions and stores, and none is a FENCE or XCHG.
 
-  ahead-walk : {o q : Own} {b : List Pending} (s : ℕ) → Move code s (o .place) → Ahead code o q b
+  move-on : (i : Instr) (m : List ℕ) (o : OwnPart) → getElem? code (o .place) ≡ some i → Move code (o .place) (after i m o .place)
+  unfolding successors onward-at after at-place
+  move-on i m o e = rw e (goes-onward (control-of i) o)
+
+  -- a store goes on to the next place
+  store-on : (a : Source) (v : ℕ) (o : OwnPart) → getElem? code (o .place) ≡ some (Store a v) → Move code (o .place) (onwards o .place)
+  unfolding control-of goes-on onwards at-place after
+  store-on a v o e = move-on (Store a v) [] o e
+
+  pub store-role : (a : Source) (v p : ℕ) → getElem? code p ≡ some (Store a v) → role-at code p ≡ Stores
+  unfolding role-of
+  store-role a v p e = role-there code p (Store a v) e
+
+  quiet-no-fence : (i : Instr) (p : ℕ) → getElem? code p ≡ some i → Quiet i → ¬ (role-at code p ≡ Fences)
+  quiet-no-fence i p e h f = let d = h .role in let g = role-there code p i e in let z : _≡_ {A = ℕ} 0 1 = cc in omega arith
+
+  ahead-walk : {o q : OwnPart} {b : List Pending} (s : ℕ) → Move code s (o .place) → Ahead code o q b
       → (between : List ℕ) × Walk code s between (q .place)
-  unfolding successors onward-at onward is-fence onwards at-place
   ahead-walk s h level = ([], h)
   ahead-walk s h (quietly {o = o} i m e k w) =
-      let r = ahead-walk (o .place) (rw e (moves-on i m o)) w in
-      (o .place ∷ r .0, (h, rw e (quiet-no-fence k), r .1))
+      let r = ahead-walk (o .place) (move-on i m o e) w in
+      (o .place ∷ r .0, (h, quiet-no-fence i (o .place) e k, r .1))
   ahead-walk s h (storing {o = o} a v e w) =
-      let r = ahead-walk (o .place) (rw e (inl refl)) w in
-      (o .place ∷ r .0, (h, rw e (λ f. f), r .1))
+      let r = ahead-walk (o .place) (store-on a v o e) w in
+      (o .place ∷ r .0, (h, store-is-no-fence (store-role a v (o .place) e), r .1))
 
   -- the walk from the oldest pending store to where the thread is now
-  pub waits-walk : {o q : Own} {p : Pending} {b : List Pending} → Waits code o q p b
+  pub waits-walk : {o q : OwnPart} {p : Pending} {b : List Pending} → Waits code o q p b
       → (between : List ℕ) × Walk code (o .place) between (q .place)
-  unfolding successors onward-at onward onwards at-place
-  waits-walk w = ahead-walk _ (rw (w .at-store) (inl refl)) (w .ahead)
+  waits-walk {o} w = ahead-walk (o .place) (store-on (w .source) (w .to) o (w .at-store)) (w .ahead)

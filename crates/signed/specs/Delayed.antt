@@ -13,14 +13,16 @@ use Rattle.reach.specs.System.{run}
 use Rattle.rules.specs.Limits.{most-threads, registers-each}
 use Rattle.rules.specs.State.{Pending, State, place, register, buffer}
 use Rattle.rules.specs.Job.{Job, start}
+use Rattle.rules.specs.Step.{executed}
 use Rattle.rules.specs.Machine.{machine}
 use Rattle.rules.specs.Sound.{JobIn}
 use Rattle.rules.specs.declared.Model.the-variants.{Sc}
 use Rattle.signed.specs.Under.{under, AllEmpty}
-use Rattle.signed.specs.Own.{Own, own, own-register, after, Sized, register-own}
-use Rattle.signed.specs.Behind.{quiet-after, quiet-wrote, made, Ahead, level, quietly, storing, Waits, Behind}
+use Rattle.signed.specs.Own.{OwnPart, own, own-register, after, Sized, register-own}
+use Rattle.signed.specs.Roles.{quiet-after}
+use Rattle.signed.specs.Behind.{made, Ahead, level, quietly, storing, Waits, Behind}
 use Rattle.signed.specs.Steps.{code}
-use Rattle.signed.specs.Calm.{Calm, calm-buffer, calm-changed, start-calm, sc-does}
+use Rattle.signed.specs.Calm.{Calm, calm-buffer, calm-changed, start-calm, sc-next, sc-does}
 
 -- x is y with each thread put back to where its oldest pending store was made
 pub record Delayed (j : Job) (x y : State) : Type 0 where
@@ -71,7 +73,7 @@ delayed-empty j x y d h =
     buffers = d .calm .empty ∙ sym (calm-y .empty)
 
     places : x .places ≡ y .places
-    places = ext-getD 0 (x .places) (y .places) (d .calm .sized .places ∙ sym (d .sized .places)) (λ t b. ap (λ (o : Own). o .place) (same t))
+    places = ext-getD 0 (x .places) (y .places) (d .calm .sized .places ∙ sym (d .sized .places)) (λ t b. ap (λ (o : OwnPart). o .place) (same t))
 
     register-same : (t r : ℕ) → t < most-threads → r < registers-each → register t r x ≡ register t r y
     register-same t r low b =
@@ -85,7 +87,7 @@ delayed-empty j x y d h =
         rw e at (register-same (i / registers-each) (i % registers-each) (omega (arith, d .calm .sized .registers)) (omega arith)))
 
 -- SC runs thread t from x until it has caught up with q but for the stores b
-pub record CaughtUp (j : Job) (t : ℕ) (q : Own) (b : List Pending) (x : State) : Type 0 where
+pub record CaughtUp (j : Job) (t : ℕ) (q : OwnPart) (b : List Pending) (x : State) : Type 0 where
   pub way : List ℕ
   pub state : State
   pub leads : run (machine (under Sc 0 j)) way x ≡ some state
@@ -96,7 +98,7 @@ pub record CaughtUp (j : Job) (t : ℕ) (q : Own) (b : List Pending) (x : State)
 
 module _ (j : Job) (ok : JobIn j) (t : ℕ) (low : t < most-threads) where
   -- the quiet instructions behind a store that has run, up to the next store
-  pub catch-up : {o q : Own} {b : List Pending} → Ahead (code j t) o q b → (x : State) → Calm x → own t x ≡ o → CaughtUp j t q b x
+  pub catch-up : {o q : OwnPart} {b : List Pending} → Ahead (code j t) o q b → (x : State) → Calm x → own t x ≡ o → CaughtUp j t q b x
   unfolding own
   catch-up level x k e =
       record { way = []; state = x; leads = refl; calm = k; memory = refl; others = λ u n. refl; behind = e }
@@ -109,21 +111,20 @@ module _ (j : Job) (ok : JobIn j) (t : ℕ) (low : t < most-threads) where
         memory = refl;
         others = λ u n. refl;
         behind =
-            subst (λ (z : Own). Waits (code j t) z q (made o a v) b) (sym e)
+            subst (λ (z : OwnPart). Waits (code j t) z q (made o a v) b) (sym e)
             (record { source = a; to = v; at-store = at; oldest = refl; ahead = w });
       }
   catch-up (quietly {o = o} i m at h w) x k e =
-      let stands : getElem? (code j t) (place t x) ≡ some i = rw (ap (λ (z : Own). z .place) e) at in
-      let d = sc-does j ok t x i low k stands in
-      let c = d .changed in
-      let moved : own t (d .state) ≡ after i m o = c .mine ∙ quiet-after h (x .memory) m (own t x) ∙ ap (after i m) e in
-      let r = catch-up w (d .state) (calm-changed c k) moved in
+      let stands : getElem? (code j t) (place t x) ≡ some i = rw (ap (λ (z : OwnPart). z .place) e) at in
+      let c = sc-does j ok t x i low k stands in
+      let moved : own t (executed Sc t i x) ≡ after i m o = c .mine ∙ quiet-after h (x .memory) m (own t x) ∙ ap (after i m) e in
+      let r = catch-up w (executed Sc t i x) (calm-changed c k) moved in
       record {
         way = t ∷ r .way;
         state = r .state;
-        leads = rw (d .is) (r .leads);
+        leads = rw (sc-next j ok t x i low k stands) (r .leads);
         calm = r .calm;
-        memory = r .memory ∙ c .memory ∙ quiet-wrote h (own t x) (x .memory);
+        memory = r .memory ∙ c .memory ∙ h .silent (own t x) (x .memory);
         others = λ u n. r .others u n ∙ c .others u n;
         behind = r .behind;
       }

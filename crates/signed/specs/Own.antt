@@ -1,63 +1,84 @@
--- A thread's own part of a state, what an instruction does to it and to memory, and that `executed` does just that under SC.
-use mathlib.Core.Path.{_≡_, refl, sym, _∙_, ap, subst}
-use mathlib.Core.Logic.{_≢_}
-use mathlib.Core.Bool.{Bool, true, false, cond}
+-- A thread's own part of a state, what an instruction does to it and to memory, and that under SC it does just that.
+use mathlib.Core.Path.{_≡_, refl, _∙_, ap}
+use mathlib.Core.Logic.{_≢_, inl}
+use mathlib.Core.Bool.{cond}
 use mathlib.Core.List.{List, []}
-use mathlib.Core.Option.{Option, some}
 use Prim.Native.Nat.{ℕ, suc, _+_, _-_, _*_, _%_, _≤_, _<_}
 use native.Mathlib.Omega.{arith}
 use native.Mathlib.Decide.{decLt}
 use lib.Dec.{eqb}
 use lib.ListN.{length, getD, set, take, drop, length-set}
 use lib.Seq.{getD-set-same, getD-set-other, drop-set-add, drop-set-lt, take-set-lt, take-set-le, getD-take, getD-drop}
+use Rattle.reach.specs.Lists.{_∈_}
 use Rattle.rules.specs.Limits.{registers-each, all-registers, most-threads, values}
-use Rattle.rules.specs.State.{Pending, State, place, register, variable, buffer, with-place, with-register, with-variable}
-use Rattle.rules.specs.Step.{newest, is-empty, advanced, carried, stored, executed}
+use Rattle.rules.specs.State.{State, place, register, variable, buffer, with-place, with-register, with-variable}
+use Rattle.rules.specs.Kinds.{control-of, role-of}
+use Rattle.rules.specs.Step.{newest, carried, stored, changed, place-after, executed}
+use Rattle.rules.specs.Fences.{onward}
 use Rattle.rules.specs.Sound.{SourceIn, InstrIn}
+use Rattle.rules.specs.Onward.{branch-onward, ControlIn, control-in}
 use Rattle.rules.specs.declared.Model.the-variants.{Sc}
 use Rattle.rules.specs.declared.Source.{Source}
 use Rattle.rules.specs.declared.Source.the-variants.{Register, Constant}
+use Rattle.rules.specs.declared.Control.{Control}
+use Rattle.rules.specs.declared.Control.the-variants.{On, To, ToIf}
+use Rattle.rules.specs.declared.Role.the-variants.{Loads}
 use Rattle.rules.specs.declared.Instr.{Instr}
 use Rattle.rules.specs.declared.Instr.the-variants.{Set, Add, Load, Store, Fence, Xchg, Jeq, Jmp}
 
 -- what belongs to one thread alone: its place and its registers
-pub record Own : Type 0 where
+pub record OwnPart : Type 0 where
   pub place : ℕ
   pub registers : List ℕ
 
-unfoldable pub own : ℕ → State → Own
+unfoldable pub own : ℕ → State → OwnPart
 own t x = record { place = place t x; registers = take registers-each (drop (registers-each * t) (x .registers)) }
 
 -- the own part with its place or a register changed
-unfoldable pub at-place : ℕ → Own → Own
+unfoldable pub at-place : ℕ → OwnPart → OwnPart
 at-place p o = record { place = p; registers = o .registers }
 
-unfoldable pub onwards : Own → Own
+unfoldable pub onwards : OwnPart → OwnPart
 onwards o = at-place (suc (o .place)) o
 
-unfoldable pub with-own-register : ℕ → ℕ → Own → Own
+unfoldable pub with-own-register : ℕ → ℕ → OwnPart → OwnPart
 with-own-register r k o = record { place = o .place; registers = set (o .registers) r k }
 
-unfoldable pub own-register : ℕ → Own → ℕ
+unfoldable pub own-register : ℕ → OwnPart → ℕ
 own-register r o = getD (o .registers) r 0
 
-unfoldable pub carries : Own → Source → ℕ
+unfoldable pub carries : OwnPart → Source → ℕ
 carries o (Register r) = own-register r o
 carries o (Constant k) = k
 
--- what an instruction makes of the own part, if loads take what memory holds
-unfoldable pub after : Instr → List ℕ → Own → Own
-after (Set r k) m o = onwards (with-own-register r k o)
-after (Add r k) m o = onwards (with-own-register r ((own-register r o + k) % values) o)
-after (Load r v) m o = onwards (with-own-register r (getD m v 0) o)
-after (Store a v) m o = onwards o
-after Fence m o = onwards o
-after (Xchg r v) m o = onwards (with-own-register r (getD m v 0) o)
-after (Jeq r p k) m o = cond (eqb (own-register r o) k) (at-place p o) (onwards o)
-after (Jmp p) m o = at-place p o
+-- the place to which the thread goes on
+unfoldable pub goes-on : Control → OwnPart → ℕ
+goes-on On o = suc (o .place)
+goes-on (To p) o = p
+goes-on (ToIf r k p) o = cond (eqb (own-register r o) k) p (suc (o .place))
+
+pub goes-onward : (c : Control) (o : OwnPart) → goes-on c o ∈ onward (o .place) c
+unfolding goes-on onward
+goes-onward On o = inl refl
+goes-onward (To p) o = inl refl
+goes-onward (ToIf r k p) o = branch-onward (o .place) p (eqb (own-register r o) k)
+
+-- what an instruction makes of the registers, if loads take what memory holds
+unfoldable pub altered : Instr → List ℕ → OwnPart → OwnPart
+altered (Set r k) m o = with-own-register r k o
+altered (Add r k) m o = with-own-register r ((own-register r o + k) % values) o
+altered (Load r v) m o = with-own-register r (getD m v 0) o
+altered (Store a v) m o = o
+altered Fence m o = o
+altered (Xchg r v) m o = with-own-register r (getD m v 0) o
+altered (Jeq r p k) m o = o
+altered (Jmp p) m o = o
+
+unfoldable pub after : Instr → List ℕ → OwnPart → OwnPart
+after i m o = at-place (goes-on (control-of i) o) (altered i m o)
 
 -- what an instruction makes of memory, if stores go straight to it
-unfoldable pub wrote : Instr → Own → List ℕ → List ℕ
+unfoldable pub wrote : Instr → OwnPart → List ℕ → List ℕ
 wrote (Set r k) o m = m
 wrote (Add r k) o m = m
 wrote (Load r v) o m = m
@@ -74,7 +95,7 @@ pub record Sized (x : State) : Type 0 where
   pub buffers : length (x .buffers) ≡ most-threads
 
 -- y is x with thread t's own part o and memory m
-pub record Changed (t : ℕ) (o : Own) (m : List ℕ) (x y : State) : Type 0 where
+pub record Changed (t : ℕ) (o : OwnPart) (m : List ℕ) (x y : State) : Type 0 where
   pub mine : own t y ≡ o
   pub others : (u : ℕ) → u ≢ t → own u y ≡ own u x
   pub memory : y .memory ≡ m
@@ -130,7 +151,7 @@ module _ (t : ℕ) (low : t < most-threads) (x : State) where
   pub unchanged : Sized x → Changed t (own t x) (x .memory) x x
   unchanged z = record { mine = refl; others = λ u n. refl; memory = refl; buffers = refl; sized = z }
 
-  module _ {o : Own} {m : List ℕ} {y : State} (c : Changed t o m x y) where
+  module _ {o : OwnPart} {m : List ℕ} {y : State} (c : Changed t o m x y) where
     changed-place : (p : ℕ) → Changed t (at-place p o) m x (with-place t p y)
     unfolding with-place
     changed-place p =
@@ -164,62 +185,37 @@ module _ (t : ℕ) (low : t < most-threads) (x : State) where
           sized = record { places = c .sized .places; registers = c .sized .registers; buffers = c .sized .buffers };
         }
 
-    pub changed-advanced : Changed t (onwards o) m x (advanced t y)
-    unfolding onwards advanced own at-place
-    changed-advanced = rw (← ap (λ (q : Own). q .place) (c .mine)) (changed-place (suc (place t y)))
-
--- the own buffer is empty, for an instruction that looks at memory or waits
-abbrev pub Free : Instr → List Pending → Type 0
-Free (Set r k) b = Unit {0}
-Free (Add r k) b = Unit {0}
-Free (Load r v) b = b ≡ []
-Free (Store a v) b = Unit {0}
-Free Fence b = b ≡ []
-Free (Xchg r v) b = b ≡ []
-Free (Jeq r p k) b = Unit {0}
-Free (Jmp p) b = Unit {0}
-
--- a state was given, and it is x as instruction i of thread t changes it
-pub record Did (t : ℕ) (i : Instr) (x : State) (outcome : Option State) : Type 0 where
-  pub state : State
-  pub is : outcome ≡ some state
-  pub changed : Changed t (after i (x .memory) (own t x)) (wrote i (own t x) (x .memory)) x state
-
-pub did-changed : {t : ℕ} {i : Instr} {x : State} {outcome : Option State} → Did t i x outcome → (y : State) → outcome ≡ some y
-    → Changed t (after i (x .memory) (own t x)) (wrote i (own t x) (x .memory)) x y
-did-changed {t} {i} {x} d y e =
-    let f : some (d .state) ≡ some y = sym (d .is) ∙ e in
-    let same : d .state ≡ y = cc in
-    subst (Changed t (after i (x .memory) (own t x)) (wrote i (own t x) (x .memory)) x) same (d .changed)
-
 module _ (t : ℕ) (low : t < most-threads) (x : State) (z : Sized x) where
-  -- under SC an instruction does this, and no more
-  pub executed-does : (vars n c : ℕ) (i : Instr) → InstrIn vars n i → Free i (buffer t x) → Did t i x (executed Sc c t i x)
-  unfolding executed after wrote stored newest is-empty variable
-  executed-does vars n c (Set r k) h f =
-      record { state = _; is = refl; changed = changed-advanced t low x (changed-register t low x (unchanged t low x z) r k (h .0)) }
-  executed-does vars n c (Add r k) h f =
-      let written = changed-register t low x (unchanged t low x z) r ((register t r x + k) % values) (h .0) in
-      record { state = _; is = refl; changed = rw (← register-own t low x z r (h .0)) (changed-advanced t low x written) }
-  executed-does vars n c (Load r v) h f =
-      let written = changed-register t low x (unchanged t low x z) r (variable v x) (h .0) in
-      record { state = advanced t (with-register t r (variable v x) x); is = rw f; changed = changed-advanced t low x written }
-  executed-does vars n c (Store a v) h f =
-      let written = changed-variable t low x (unchanged t low x z) v (carried t x a) in
-      record { state = _; is = refl; changed = rw (← carried-own t low x z a (h .0)) (changed-advanced t low x written) }
-  executed-does vars n c Fence h f = record { state = advanced t x; is = rw f; changed = changed-advanced t low x (unchanged t low x z) }
-  executed-does vars n c (Xchg r v) h f =
-      let memory-set = changed-variable t low x (unchanged t low x z) v (register t r x) in
-      let both-set = changed-register t low x memory-set r (variable v x) (h .0) in
-      record {
-        state = advanced t (with-register t r (variable v x) (with-variable v (register t r x) x));
-        is = rw f;
-        changed = rw (← register-own t low x z r (h .0)) (changed-advanced t low x both-set);
-      }
-  executed-does vars n c (Jeq r p k) h f =
-      record { state = _; is = refl; changed = rw (← register-own t low x z r (h .0)) (jumps (eqb (register t r x) k)) }
-    where
-      jumps : (b : Bool) → Changed t (cond b (at-place p (own t x)) (onwards (own t x))) (x .memory) x (cond b (with-place t p x) (advanced t x))
-      jumps true = changed-place t low x (unchanged t low x z) p
-      jumps false = changed-advanced t low x (unchanged t low x z)
-  executed-does vars n c (Jmp p) h f = record { state = _; is = refl; changed = changed-place t low x (unchanged t low x z) p }
+  -- the thread at its next place
+  pub changed-onwards : Changed t (onwards (own t x)) (x .memory) x (with-place t (suc (place t x)) x)
+  unfolding onwards own
+  changed-onwards = changed-place t low x (unchanged t low x z) (suc (place t x))
+
+  -- under SC this becomes of the own part's registers and of memory, and no more; a load must not have a store of its own pending
+  changed-does : (vars n : ℕ) (i : Instr) → InstrIn vars n i → (role-of i ≡ Loads → buffer t x ≡ [])
+      → Changed t (altered i (x .memory) (own t x)) (wrote i (own t x) (x .memory)) x (changed Sc t i x)
+  unfolding changed altered wrote stored newest variable role-of
+  changed-does vars n (Set r k) h f = changed-register t low x (unchanged t low x z) r k (h .0)
+  changed-does vars n (Add r k) h f =
+      rw (← register-own t low x z r (h .0)) (changed-register t low x (unchanged t low x z) r ((register t r x + k) % values) (h .0))
+  changed-does vars n (Load r v) h f = rw (f refl) (changed-register t low x (unchanged t low x z) r (variable v x) (h .0))
+  changed-does vars n (Store a v) h f =
+      rw (← carried-own t low x z a (h .0)) (changed-variable t low x (unchanged t low x z) v (carried t x a))
+  changed-does vars n Fence h f = unchanged t low x z
+  changed-does vars n (Xchg r v) h f =
+      rw (← register-own t low x z r (h .0))
+      (changed-register t low x (changed-variable t low x (unchanged t low x z) v (register t r x)) r (variable v x) (h .0))
+  changed-does vars n (Jeq r p k) h f = unchanged t low x z
+  changed-does vars n (Jmp p) h f = unchanged t low x z
+
+  place-own : (n : ℕ) (c : Control) → ControlIn n c → place-after t c x ≡ goes-on c (own t x)
+  unfolding place-after goes-on own
+  place-own n On h = refl
+  place-own n (To p) h = refl
+  place-own n (ToIf r k p) h = rw (register-own t low x z r (h .0))
+
+  pub executed-does : (vars n : ℕ) (i : Instr) → InstrIn vars n i → (role-of i ≡ Loads → buffer t x ≡ [])
+      → Changed t (after i (x .memory) (own t x)) (wrote i (own t x) (x .memory)) x (executed Sc t i x)
+  unfolding executed after
+  executed-does vars n i h f =
+      rw (← place-own n (control-of i) (control-in vars n i h)) (changed-place t low x (changed-does vars n i h f) (place-after t (control-of i) x))

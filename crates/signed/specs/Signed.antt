@@ -13,23 +13,23 @@ use Rattle.rules.specs.Step.{is-empty}
 use Rattle.rules.specs.Goal.{every, clause-holds, goal}
 use Rattle.rules.specs.Tests.{both}
 use Rattle.rules.specs.Machine.{machine}
-use Rattle.rules.specs.Fences.{fenced, FenceMeans}
+use Rattle.rules.specs.Fences.{fenced, ChecksTo}
 use Rattle.rules.specs.Sound.{JobIn}
 use Rattle.rules.specs.declared.Model.the-variants.{Sc, Tso}
 pub use Rattle.signed.specs.Under.{under, AllEmpty, all-empty-test}
 use Rattle.signed.specs.Calm.{start-calm}
 use Rattle.signed.specs.ScToTso.{sc-to-tso}
 use Rattle.signed.specs.Delayed.{start-delayed, delayed-empty}
-use Rattle.signed.specs.TsoToSc.{follows}
+use Rattle.signed.specs.TsoToSc.{followed}
 
 -- "For each program it passes, a machine state with every buffer empty can be reached under TSO, at any permitted capacity, exactly when
 -- it can be reached under SC from the same start."
-pub signed : (j : Job) → JobIn j → FenceMeans j fenced → (c : ℕ) → 1 ≤ c → (x : State) → AllEmpty x
+pub signed : (j : Job) → JobIn j → ChecksTo (j .threads) fenced → (c : ℕ) → 1 ≤ c → (x : State) → AllEmpty x
     → Reached (machine (under Tso c j)) x ↔ Reached (machine (under Sc 0 j)) x
 unfolding start
 signed j ok passes c room x empty = (
   λ r.
-      let f = follows j ok passes c (r .way) (start j) (start j) x (start-delayed j) (r .leads) in
+      let f = followed j ok passes c (r .way) (start j) (start j) x (start-delayed j) (r .leads) in
       subst (Reached (machine (under Sc 0 j))) (delayed-empty j (f .state) x (f .delayed) empty) (record { way = f .way; leads = f .leads }),
   λ r.
       let f = sc-to-tso j ok c room (r .way) (start j) x (start-calm j) (r .leads) in
@@ -46,7 +46,7 @@ goal-empty j flag x h =
 goal-reached : (S : System) (d : ℕ) → LeastGoal S d → ¬ (NoGoal S)
 goal-reached S d g nowhere = nowhere (g .goal) (g .holds) (record { way = g .distance .way; leads = g .distance .leads })
 
-module _ (j : Job) (ok : JobIn j) (passes : FenceMeans j fenced) (flag : j .all-empty ≡ true) (c : ℕ) (room : 1 ≤ c) where
+module _ (j : Job) (ok : JobIn j) (passes : ChecksTo (j .threads) fenced) (flag : j .all-empty ≡ true) (c : ℕ) (room : 1 ≤ c) where
   -- if the one reaches no goal state, the other doesn't
   pub no-goal-alike : NoGoal (machine (under Tso c j)) ↔ NoGoal (machine (under Sc 0 j))
   unfolding goal

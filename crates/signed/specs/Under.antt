@@ -20,6 +20,7 @@ use Rattle.rules.specs.declared.Model.the-variants.{Sc}
 abbrev pub under : Model → ℕ → Job → Job
 under m c j =
     record {
+      version = j .version;
       model = m;
       capacity = c;
       initial = j .initial;

@@ -1,21 +1,20 @@
--- One buffer more, after t that were laid, found or read.
+-- One buffer more, after t that were laid or read.
 use mathlib.Core.Path.{_≡_, sym, ap, _∙_}
-use mathlib.Core.Bool.{true, false, _&&_}
 use mathlib.Core.List.{List, [], _∷_, append-nil}
 use Prim.Native.Nat.{ℕ, suc, _+_, _*_, _<_, _≤_}
 use native.Mathlib.Numerals.{add-one}
 use native.Mathlib.Omega.{arith}
-use lib.ListN.{length, getD, set, take, drop, take-append-drop, length-append}
+use lib.ListN.{length, getD, set, take, length-append}
 use lib.Seq.{take-suc-set}
 use Rattle.reach.specs.Lists.{All}
 use Rattle.reach.specs.ListLaws.{all-append}
 use Rattle.rules.specs.Limits.{buffer-size, pairs-size}
+use Rattle.span.specs.Span.{bytes-at, laid}
+use Rattle.span.specs.SpanLaws.{laid-then, bytes-at-add, bytes-at-number, one-more}
 use Rattle.buffer.specs.declared.Buf.{Buf}
 use Rattle.slot.specs.Bytes.{buffer-bytes, buffers-bytes, FullBuffer}
 use Rattle.slot.specs.BytesLaws.{no-buffer, buffers-bytes-suc, buffers-bytes-append, front-number}
-use Rattle.slot.specs.Parts.{laid, holds, ReadBuffer, ReadBuffers}
-use Rattle.slot.specs.Table.{bytes-at}
-use Rattle.slot.proofs.RunLaws.{laid-then, holds-append, holds-missed, bytes-at-add, bytes-at-number, one-more}
+use Rattle.slot.specs.Table.{ReadBuffer, ReadBuffers}
 
 module _ (table : List ℕ) (at : ℕ) (l : List Buf) (full : All FullBuffer l) (t : ℕ) (h : t < length l) where
   abbrev front : List ℕ
@@ -30,18 +29,6 @@ module _ (table : List ℕ) (at : ℕ) (l : List Buf) (full : All FullBuffer l) 
   pub laid-buffer : at + buffer-size * t ≤ length table
       → laid (laid table at front) (at + buffer-size * t) next ≡ laid table at (buffers-bytes (take (suc t) l))
   laid-buffer room = rw (buffers-bytes-suc l t h) (laid-then table at front next (buffer-size * t) number room)
-
-  holds-buffer : holds table at (buffers-bytes (take (suc t) l)) ≡ (holds table at front && holds table (at + buffer-size * t) next)
-  holds-buffer = rw (buffers-bytes-suc l t h, ← number) (holds-append table at front next)
-
-  pub found-buffer : holds table at front ≡ true → holds table (at + buffer-size * t) next ≡ true → holds table at (buffers-bytes (take (suc t) l)) ≡ true
-  found-buffer e f = holds-buffer ∙ rw (e, f)
-
-  pub missed-buffer : holds table at front ≡ true → holds table (at + buffer-size * t) next ≡ false → holds table at (buffers-bytes l) ≡ false
-  missed-buffer e f =
-      let whole = ap buffers-bytes (sym (take-append-drop (suc t) l)) ∙ buffers-bytes-append (take (suc t) l) (drop (suc t) l) in
-      let missed = holds-missed table at (buffers-bytes (take (suc t) l)) (buffers-bytes (drop (suc t) l)) (holds-buffer ∙ rw (e, f)) in
-      ap (holds table at) whole ∙ missed
 
 pub read-buffer-bytes : (table : List ℕ) (at : ℕ) (slots : List ℕ) → at + buffer-size ≤ length table
     → slots ≡ bytes-at table (at + 1) pairs-size → ReadBuffer table at (record { len = getD table at 0; slots = slots })

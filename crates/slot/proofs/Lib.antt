@@ -1,4 +1,3 @@
-pub mod RunLaws
 pub mod BufferLaws
 pub mod StateLaws
 pub mod Sizes

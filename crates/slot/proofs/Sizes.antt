@@ -11,9 +11,9 @@ use denote.Struct.Declared.{row}
 use Rattle.reach.specs.Lists.{All}
 use Rattle.rules.specs.Limits.{most-threads, most-variables, all-registers, pairs-size}
 use Rattle.buffer.proofs.Buf.{the-field}
-use Rattle.machine.proofs.State.{the-type}
+use Rattle.state.proofs.State.{the-type}
 use Rattle.buffer.specs.declared.Buf.{Buf}
-use Rattle.machine.specs.declared.State.{State}
+use Rattle.state.specs.declared.State.{State}
 use Rattle.slot.specs.Bytes.{FullBuffer, Sized}
 
 -- The parts of a struct stand in the order of its fields. A field that is an array stands as a mapped list, and says its length.

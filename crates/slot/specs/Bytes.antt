@@ -6,7 +6,7 @@ use lib.ListN.{length}
 use Rattle.reach.specs.Lists.{All}
 use Rattle.rules.specs.Limits.{most-threads, most-variables, all-registers, pairs-size}
 use Rattle.buffer.specs.declared.Buf.{Buf}
-use Rattle.machine.specs.declared.State.{State}
+use Rattle.state.specs.declared.State.{State}
 
 -- "17 bytes a thread: count, and eight pairs"
 unfoldable pub buffer-bytes : Buf → List ℕ

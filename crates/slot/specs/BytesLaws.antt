@@ -9,9 +9,9 @@ use Rattle.reach.specs.Lists.{All}
 use Rattle.reach.specs.ListLaws.{append-equal, all-imp}
 use Rattle.rules.specs.Limits.{buffer-size, slot-size}
 use Rattle.buffer.specs.declared.Buf.{Buf}
-use Rattle.machine.specs.declared.State.{State}
+use Rattle.state.specs.declared.State.{State}
 use Rattle.buffer.specs.Held.{BufferOk}
-use Rattle.machine.specs.Held.{StateOk}
+use Rattle.state.specs.Held.{StateOk}
 use Rattle.slot.specs.Bytes.{buffer-bytes, buffers-bytes, state-bytes, FullBuffer, Sized}
 
 -- a buffer without bytes, as the list of buffers reads past its end

@@ -3,6 +3,4 @@ pub mod BytesLaws
 pub mod BufferHeld
 pub mod StateHeld
 pub mod Table
-pub mod TableLaws
-pub mod Slots
-pub mod Parts
+pub mod ReadHeld

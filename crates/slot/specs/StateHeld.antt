@@ -5,8 +5,8 @@ use Rattle.reach.specs.Lists.{All}
 use Rattle.rules.specs.Slot as rules
 use Rattle.buffer.specs.declared.Buf.{Buf}
 use Rattle.buffer.specs.Held.{held-buffer, BufferOk}
-use Rattle.machine.specs.declared.State.{State}
-use Rattle.machine.specs.Held.{held, StateOk}
+use Rattle.state.specs.declared.State.{State}
+use Rattle.state.specs.Held.{held, StateOk}
 use Rattle.slot.specs.Bytes.{buffers-bytes, state-bytes}
 use Rattle.slot.specs.BufferHeld.{buffer-bytes-held}
 

@@ -1,17 +1,12 @@
 // The tables of 01: what four bytes are as an instruction, and what they are as a clause of a goal.
 use rules::Clause;
 use rules::Instr;
+use rules::REGISTERS_EACH;
 use rules::Source;
 ghost use mathlib.Core.Path.{_≡_};
-ghost use mathlib.Core.List.{List, []};
-ghost use lib.ListN.{length, getD};
 ghost use Rattle.rules.specs.Step.{given};
 ghost use Rattle.rules.specs.File.{instruction-of, clause-of};
-ghost use Rattle.rules.specs.declared.Instr as Declared;
 ghost use Rattle.tables.specs.Told.{instr-of, goal-clause-of};
-
-// "4 registers a thread"
-pub const REGISTERS_EACH: u8 = 4;
 
 // What four bytes are: an instruction, or none.
 pub enum InstrRead {
@@ -74,19 +69,17 @@ fn keep_clause(ok: bool, i: Clause) -> ClauseRead
     }
 }
 
-// vars is V, threads is T, n the length of thread a, if the job has it.
-pub fn clause(vars: u8, threads: u8, n: u8, kind: u8, a: u8, b: u8, c: u8) -> ClauseRead
-    ensures { λ r. ⌜
-        ((ts : List (List Declared.Instr)) → length ts ≡ threads → length (getD ts a []) ≡ n → goal-clause-of r ≡ clause-of vars ts kind a b c)
-        ⌝ }
+// vars is V, count is T, n the length of thread a, if the job has it.
+pub fn clause(vars: u8, count: u8, n: u8, kind: u8, a: u8, b: u8, c: u8) -> ClauseRead
+    ensures { λ r. ⌜ goal-clause-of r ≡ clause-of vars count n kind a b c ⌝ }
 {
     match kind {
-        1 => keep_clause((a < threads) & (b == 0) & (c <= n), Clause::Place(a, c)),
+        1 => keep_clause((a < count) & (b == 0) & (c <= n), Clause::PlaceIs(a, c)),
         2 => keep_clause(
-            (a < threads) & (b < REGISTERS_EACH),
-            Clause::Register(a, b, c),
+            (a < count) & (b < REGISTERS_EACH),
+            Clause::RegisterIs(a, b, c),
         ),
-        3 => keep_clause((a < vars) & (b == 0), Clause::Memory(a, c)),
+        3 => keep_clause((a < vars) & (b == 0), Clause::MemoryIs(a, c)),
         0 | 4..=255 => ClauseRead::Bad,
     }
 }

@@ -5,16 +5,21 @@ use mathlib.Core.List.{List, [], _∷_}
 use Prim.Native.Nat.{ℕ, zero, suc}
 use native.Mathlib.Omega.{arith}
 use lib.ListN.{getD}
-use Rattle.reach.specs.Meaning.{Answer, reachable, unreachable, unknown, Outcome, MeansAt, IsReachable, IsUnreachable}
+use Rattle.reach.specs.System.{System}
+use Rattle.reach.specs.Meaning.{Answer, reachable, unreachable, unknown, Outcome, MeansAt, IsReachable, IsUnreachable, Outnumber}
+use Rattle.reach.specs.Words.{answer-words}
 use Rattle.reach.specs.Promise as reach-promise
-use Rattle.reach.specs.Promise.{Outnumber}
 use Rattle.rules.specs.State.{State}
 use Rattle.rules.specs.Job.{Job}
 use Rattle.rules.specs.File.{accepted, decode}
+use Rattle.rules.specs.Limits.{slot-size}
+use Rattle.rules.specs.Slot.{slot-bytes}
 use Rattle.rules.specs.Machine.{machine}
-use Rattle.rules.specs.Fences.{Fenced, fenced, open-at, FenceMeans}
+use Rattle.rules.specs.Same.{searchable}
+use Rattle.rules.specs.Fences.{Checked, fenced, open-at, ChecksTo}
 use Rattle.fences.specs.Meaning as fences
-use Rattle.search.specs.Meaning.{Lent, slots-lent, refusal-words, answer-words, filled, MeansWith, MeansOf, SearchMeans}
+use Rattle.lent.specs.Meaning.{Lent, filled, AnsweredWith}
+use Rattle.search.specs.Meaning.{slots-of, SearchOf, SearchPromise}
 
 abbrev pub reachable-words : (d states : ℕ) → List ℕ
 reachable-words d states = answer-words (reachable d states)
@@ -26,19 +31,18 @@ unreachable-words states = answer-words (unreachable states)
 word : ℕ → List ℕ → ℕ
 word i ws = getD ws i 0
 
-module _ (j : Job) (N : ℕ) (o : Outcome State) where
-  reachable-of : (d n : ℕ) (a : Answer) → MeansAt (machine j) N a o → reachable-words d n ≡ answer-words a → IsReachable (machine j) N d n o
+module _ (S : System) (N : ℕ) (o : Outcome (S .State)) where
+  reachable-of : (d n : ℕ) (a : Answer) → MeansAt S N a o → reachable-words d n ≡ answer-words a → IsReachable S N d n o
   unfolding word
   reachable-of d n (reachable d′ n′) h e =
-      subst (λ z. IsReachable (machine j) N z n o) (sym (ap (word 1) e))
-      (subst (λ z. IsReachable (machine j) N d′ z o) (sym (ap (word 2) e)) h)
+      subst (λ k. IsReachable S N k n o) (sym (ap (word 1) e)) (subst (λ k. IsReachable S N d′ k o) (sym (ap (word 2) e)) h)
   reachable-of d n (unreachable k) h e = absurd (let f : 1 ≡ 2 = ap (word 0) e in omega arith)
   reachable-of d n (unknown k) h e = absurd (let f : 1 ≡ 3 = ap (word 0) e in omega arith)
 
-  unreachable-of : (n : ℕ) (a : Answer) → MeansAt (machine j) N a o → unreachable-words n ≡ answer-words a → IsUnreachable (machine j) N n o
+  unreachable-of : (n : ℕ) (a : Answer) → MeansAt S N a o → unreachable-words n ≡ answer-words a → IsUnreachable S N n o
   unfolding word
   unreachable-of n (reachable d k) h e = absurd (let f : 2 ≡ 1 = ap (word 0) e in omega arith)
-  unreachable-of n (unreachable n′) h e = subst (λ z. IsUnreachable (machine j) N z o) (sym (ap (word 1) e)) h
+  unreachable-of n (unreachable n′) h e = subst (λ k. IsUnreachable S N k o) (sym (ap (word 1) e)) h
   unreachable-of n (unknown k) h e = absurd (let f : 2 ≡ 3 = ap (word 0) e in omega arith)
 
 -- what "reachable" says of an accepted job, whatever was lent
@@ -46,7 +50,7 @@ pub record FoundIn (j : Job) (d n : ℕ) (m m′ : Lent) : Type 0 where
   pub slots : ℕ
   pub outcome : Outcome State
   pub means : IsReachable (machine j) slots d n outcome
-  pub buffers : m′ ≡ filled outcome m
+  pub buffers : m′ ≡ filled (machine j) slot-size slot-bytes outcome m
 
 -- what "unreachable" says
 pub record RuledOutIn (j : Job) (n : ℕ) : Type 0 where
@@ -54,56 +58,60 @@ pub record RuledOutIn (j : Job) (n : ℕ) : Type 0 where
   pub outcome : Outcome State
   pub means : IsUnreachable (machine j) slots n outcome
 
+-- the search of a job with N slots
+abbrev Answers : Job → ℕ → Lent → List ℕ → Lent → Type 0
+Answers j N m ws m′ = AnsweredWith (machine j) slot-size slot-bytes N m ws m′
+
 module _ (bytes : List ℕ) (j : Job) (is : decode bytes ≡ accepted j) (m m′ : Lent) where
-  pub found : (d n : ℕ) → SearchMeans bytes m (reachable-words d n) m′ → FoundIn j d n m m′
+  pub found : (d n : ℕ) → SearchPromise bytes m (reachable-words d n) m′ → FoundIn j d n m m′
   unfolding word
-  found d n h = which (slots-lent m) (subst (λ z. MeansOf z m (reachable-words d n) m′) is h)
+  found d n h = which (slots-of m) (subst (λ r. SearchOf r m (reachable-words d n) m′) is h)
     where
-      which : (N : ℕ) → MeansWith j N m (reachable-words d n) m′ → FoundIn j d n m m′
+      which : (N : ℕ) → Answers j N m (reachable-words d n) m′ → FoundIn j d n m m′
       which zero k = absurd (let f : 1 ≡ 0 = ap (word 0) (k .answer) in omega arith)
       which (suc N) k =
           record {
             slots = suc N;
             outcome = k .outcome;
-            means = reachable-of j (suc N) (k .outcome) d n (k .outcome .answer) (k .means) (k .answer);
+            means = reachable-of (machine j) (suc N) (k .outcome) d n (k .outcome .answer) (k .means) (k .answer);
             buffers = k .buffers;
           }
 
-  pub ruled-out : (n : ℕ) → SearchMeans bytes m (unreachable-words n) m′ → RuledOutIn j n
+  pub ruled-out : (n : ℕ) → SearchPromise bytes m (unreachable-words n) m′ → RuledOutIn j n
   unfolding word
-  ruled-out n h = which (slots-lent m) (subst (λ z. MeansOf z m (unreachable-words n) m′) is h)
+  ruled-out n h = which (slots-of m) (subst (λ r. SearchOf r m (unreachable-words n) m′) is h)
     where
-      which : (N : ℕ) → MeansWith j N m (unreachable-words n) m′ → RuledOutIn j n
+      which : (N : ℕ) → Answers j N m (unreachable-words n) m′ → RuledOutIn j n
       which zero k = absurd (let f : 2 ≡ 0 = ap (word 0) (k .answer) in omega arith)
       which (suc N) k =
           record {
             slots = suc N;
             outcome = k .outcome;
-            means = unreachable-of j (suc N) (k .outcome) n (k .outcome .answer) (k .means) (k .answer);
+            means = unreachable-of (machine j) (suc N) (k .outcome) n (k .outcome .answer) (k .means) (k .answer);
           }
 
 -- "Unknown" is answered exactly when the states up to the goal's distance, or all states if no goal can be reached, outnumber the slots
-module _ (bytes : List ℕ) (j : Job) (is : decode bytes ≡ accepted j) (m m′ : Lent) (ws : List ℕ) (N : ℕ) (slots : slots-lent m ≡ suc N) where
+module _ (bytes : List ℕ) (j : Job) (is : decode bytes ≡ accepted j) (m m′ : Lent) (ws : List ℕ) (N : ℕ) (slots : slots-of m ≡ suc N) where
   unknown-of : (a : Answer) → answer-words a ≡ answer-words (unknown (suc N)) → a ≡ unknown (suc N)
   unfolding word
   unknown-of (reachable d n) e = absurd (let f : 1 ≡ 3 = ap (word 0) e in omega arith)
   unknown-of (unreachable n) e = absurd (let f : 2 ≡ 3 = ap (word 0) e in omega arith)
   unknown-of (unknown n) e = ap {B = Answer} unknown (ap (word 1) e)
 
-  pub unknown-exactly : SearchMeans bytes m ws m′ → (ws ≡ answer-words (unknown (suc N))) ↔ Outnumber (machine j) (suc N)
+  pub unknown-exactly : SearchPromise bytes m ws m′ → (ws ≡ answer-words (unknown (suc N))) ↔ Outnumber (machine j) (suc N)
   unknown-exactly h =
-      let k : MeansWith j (suc N) m ws m′ = subst (λ n. MeansWith j n m ws m′) slots (subst (λ z. MeansOf z m ws m′) is h) in
-      let exactly = reach-promise.unknown-exactly (machine j) (suc N) (k .outcome) (k .means) in
+      let k : Answers j (suc N) m ws m′ = subst (λ n. Answers j n m ws m′) slots (subst (λ r. SearchOf r m ws m′) is h) in
+      let exactly = reach-promise.unknown-exactly (searchable j) (suc N) (k .outcome) (k .means) in
       (λ e. exactly .0 (unknown-of (k .outcome .answer) (sym (k .answer) ∙ e)), λ o. k .answer ∙ ap answer-words (exactly .1 o))
 
 abbrev pub fenced-words : List ℕ
 fenced-words = fences.checked-words fenced
 
 -- what "FENCED" says of an accepted job
-pub passed : (bytes : List ℕ) (j : Job) → decode bytes ≡ accepted j → fences.FencesMean bytes fenced-words → FenceMeans j fenced
+pub passed : (bytes : List ℕ) (j : Job) → decode bytes ≡ accepted j → fences.FencePromise bytes fenced-words → ChecksTo (j .threads) fenced
 unfolding word
-passed bytes j is h = let k = subst (λ z. fences.MeansOf z fenced-words) is h in which (k .checked) (k .means) (k .answer)
+passed bytes j is h = let k = subst (λ r. fences.FenceOf r fenced-words) is h in which (k .checked) (k .means) (k .answer)
   where
-    which : (a : Fenced) → FenceMeans j a → fenced-words ≡ fences.checked-words a → FenceMeans j fenced
+    which : (a : Checked) → ChecksTo (j .threads) a → fenced-words ≡ fences.checked-words a → ChecksTo (j .threads) fenced
     which fenced m e = m
     which (open-at t s l) m e = absurd (let f : 1 ≡ 2 = ap (word 0) e in omega arith)

@@ -5,26 +5,26 @@ use mathlib.Core.Bool.{true}
 use mathlib.Core.List.{List}
 use Prim.Native.Nat.{ℕ, _≤_, _<_}
 use native.Mathlib.Omega.{arith}
-use lib.ListN.{getElem?}
 use Rattle.reach.specs.Lists.{All}
 use Rattle.reach.specs.Meaning.{Reached, NoGoal}
-use Rattle.rules.specs.Limits.{values}
+use Rattle.rules.specs.Limits.{byte-values}
 use Rattle.rules.specs.State.{State}
 use Rattle.rules.specs.Job.{Job}
 use Rattle.rules.specs.File.{accepted, decode}
 use Rattle.rules.specs.Machine.{machine}
-use Rattle.rules.specs.Fences.{Open, Fenced, fenced, open-at, FenceMeans}
-use Rattle.fences.specs.Meaning.{MeansFor, MeansOf, FencesMean, fences-accepted}
+use Rattle.rules.specs.Fences.{fenced, ChecksTo}
+use Rattle.fences.specs.Meaning.{FenceFor, FenceOf, FencePromise, fences-accepted}
 use Rattle.rules.specs.Accepted.{accepted-in}
 use Rattle.rules.specs.Sound.{JobIn}
 use Rattle.rules.specs.declared.Model.the-variants.{Sc, Tso}
 use Rattle.signed.specs.Under.{under, under-sc, AllEmpty}
 use Rattle.signed.specs.Signed as signed
-use Rattle.search.specs.Meaning.{Lent, SearchMeans}
+use Rattle.lent.specs.Meaning.{Lent}
+use Rattle.search.specs.Meaning.{SearchPromise}
 use Rattle.together.specs.Answered.{reachable-words, unreachable-words, FoundIn, RuledOutIn, fenced-words, found, ruled-out, passed}
 
 abbrev pub Bytes : List ℕ → Type 0
-Bytes l = All (λ k. k < values) l
+Bytes l = All (λ k. k < byte-values) l
 
 -- Two accepted files of one job: the first says SC, the second TSO with some capacity, and all else is the same.
 pub record OfOneJob (sc tso : List ℕ) (j : Job) (c : ℕ) : Type 0 where
@@ -35,30 +35,14 @@ pub record OfOneJob (sc tso : List ℕ) (j : Job) (c : ℕ) : Type 0 where
   pub tso-is : decode tso ≡ accepted (under Tso c j)
 
 -- "Once the job is accepted, its model makes no difference here": files of the same threads are answered alike.
-open-alike : (i j : Job) → i .threads ≡ j .threads → (t s l : ℕ) → Open i t s l → Open j t s l
-open-alike i j e t s l o =
-    record {
-      code = o .code;
-      thread-is = ap (λ x. getElem? x t) (sym e) ∙ o .thread-is;
-      store = o .store;
-      load = o .load;
-      between = o .between;
-      walk = o .walk;
-    }
-
-means-alike : (i j : Job) → i .threads ≡ j .threads → (a : Fenced) → FenceMeans i a → FenceMeans j a
-means-alike i j e fenced h = λ t s l o. h t s l (open-alike j i (sym e) t s l o)
-means-alike i j e (open-at t s l) h = (open-alike i j e t s l (h .0), λ t′ s′ l′ o. h .1 t′ s′ l′ (open-alike j i (sym e) t′ s′ l′ o))
-
 pub checked-alike :
     (one other : List ℕ) (i j : Job) → decode one ≡ accepted i → decode other ≡ accepted j → i .threads ≡ j .threads →
-    (ws : List ℕ) → FencesMean one ws → FencesMean other ws
+    (ws : List ℕ) → FencePromise one ws → FencePromise other ws
 checked-alike one other i j p q e ws h =
-    let k : MeansFor i ws = subst (λ z. MeansOf z ws) p h in
-    fences-accepted other ws j q (record { checked = k .checked; means = means-alike i j e (k .checked) (k .means); answer = k .answer })
+    fences-accepted other ws j q (subst (λ threads. FenceFor threads ws) e (subst (λ r. FenceOf r ws) p h))
 
-module _ (sc tso : List ℕ) (j : Job) (c : ℕ) (files : OfOneJob sc tso j c) (check : FencesMean sc fenced-words) where
-  passes : FenceMeans j fenced
+module _ (sc tso : List ℕ) (j : Job) (c : ℕ) (files : OfOneJob sc tso j c) (check : FencePromise sc fenced-words) where
+  passes : ChecksTo (j .threads) fenced
   passes = passed sc j (files .sc-is) check
 
   ok : JobIn j
@@ -76,21 +60,21 @@ module _ (sc tso : List ℕ) (j : Job) (c : ℕ) (files : OfOneJob sc tso j c) (
 
   module _ (flag : j .all-empty ≡ true) where
     -- SC searched and found unreachable: no schedule of any length reaches a goal under TSO, at the capacity that the second file says
-    pub sign-for-tso : (m m′ : Lent) (n : ℕ) → SearchMeans sc m (unreachable-words n) m′ → NoGoal (machine (under Tso c j))
+    pub sign-for-tso : (m m′ : Lent) (n : ℕ) → SearchPromise sc m (unreachable-words n) m′ → NoGoal (machine (under Tso c j))
     sign-for-tso m m′ n h =
         let r = ruled-out sc j (files .sc-is) m m′ n h in
         signed.no-goal-alike j ok passes flag c room .1 (subst (λ z. NoGoal (machine z)) (sym as-it-stands) (r .means .no-goal))
 
     -- the two searches never contradict each other
     pub never-contradict : (m m′ l l′ : Lent) (d n k : ℕ)
-        → SearchMeans tso m (reachable-words d n) m′ → SearchMeans sc l (unreachable-words k) l′ → ⊥
+        → SearchPromise tso m (reachable-words d n) m′ → SearchPromise sc l (unreachable-words k) l′ → ⊥
     never-contradict m m′ l l′ d n k h u =
         let f = found tso (under Tso c j) (files .tso-is) m m′ d n h in
         let r = subst (λ z. RuledOutIn z k) (sym as-it-stands) (ruled-out sc j (files .sc-is) l l′ k u) in
         signed.never-contradict j ok passes flag c room (f .slots) (r .slots) d n k (f .outcome) (r .outcome) (f .means) (r .means)
 
     pub never-contradict-back : (m m′ l l′ : Lent) (d n k : ℕ)
-        → SearchMeans sc m (reachable-words d n) m′ → SearchMeans tso l (unreachable-words k) l′ → ⊥
+        → SearchPromise sc m (reachable-words d n) m′ → SearchPromise tso l (unreachable-words k) l′ → ⊥
     never-contradict-back m m′ l l′ d n k h u =
         let f = subst (λ z. FoundIn z d n m m′) (sym as-it-stands) (found sc j (files .sc-is) m m′ d n h) in
         let r = ruled-out tso (under Tso c j) (files .tso-is) l l′ k u in

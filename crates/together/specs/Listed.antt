@@ -9,18 +9,23 @@ use lib.ListN.{length, take, drop}
 use lib.Seq.{take-at}
 use Rattle.reach.specs.Lists.{All}
 use Rattle.reach.specs.ListLaws.{all-imp}
-use Rattle.reach.specs.Meaning.{Answer, reachable, unreachable, unknown, Outcome, LeastGoal, NoGoal, Reached, AtMost, Counts, GoalSchedule, MeansAt}
+use Rattle.reach.specs.Meaning.{Answer, reachable, unreachable, unknown, Outcome, LeastGoal, NoGoal, Reached, AtMost, Counts, GoalSchedule, MeansAt, Brings}
+use Rattle.reach.specs.Words.{refusal-words, answer-words}
 use Rattle.reach.specs.Order.{First}
-use Rattle.reach.specs.Promise.{Brings, unknown-exactly}
+use Rattle.reach.specs.Promise.{unknown-exactly}
 use Rattle.reach.specs.System.{System}
 use Rattle.reach.specs.Unique.{counts-unique, first-unique, goal-unique}
 use Rattle.rules.specs.Job.{Job}
 use Rattle.rules.specs.File.{Decoded, accepted, refused, decode}
+use Rattle.rules.specs.Limits.{slot-size}
+use Rattle.rules.specs.Slot.{slot-bytes}
 use Rattle.rules.specs.Machine.{machine}
+use Rattle.rules.specs.Same.{searchable}
 use Rattle.rules.specs.Worked.{Claim, search-reaches, search-never, search-unknown, fences-say, replay-says, refuses, Case, CaseHolds, Meant, table, worked}
 use Rattle.fences.specs.Meaning as fences
 use Rattle.replay.specs.Meaning as replay
-use Rattle.search.specs.Meaning as search
+use Rattle.lent.specs.Meaning.{Lent, IsRefused, IsAnswered, AnsweredWith}
+use Rattle.search.specs.Meaning.{slots-of, SearchOf, SearchPromise}
 use Rattle.together.specs.Answered.{reachable-words, unreachable-words}
 
 -- What a claim about a search fixes of the outcome.
@@ -62,29 +67,29 @@ module _ (S : System) (N : ℕ) (o : Outcome (S .State)) where
 
 -- what a search answered, with the list's number of slots lent
 module _ (bytes : List ℕ) (j : Job) (is : decode bytes ≡ accepted j) (N : ℕ) (some-slot : 1 ≤ N) where
-  answered : (m m′ : search.Lent) (ws : List ℕ) → search.slots-lent m ≡ N → search.SearchMeans bytes m ws m′ → search.IsAnswered j N m ws m′
+  answered : (m m′ : Lent) (ws : List ℕ) → slots-of m ≡ N → SearchPromise bytes m ws m′ → IsAnswered (machine j) slot-size slot-bytes N m ws m′
   answered m m′ ws slots h =
-      which N some-slot (subst (λ n. search.MeansWith j n m ws m′) slots (subst (λ z. search.MeansOf z m ws m′) is h))
+      which N some-slot (subst (λ n. AnsweredWith (machine j) slot-size slot-bytes n m ws m′) slots (subst (λ z. SearchOf z m ws m′) is h))
     where
-      which : (n : ℕ) → 1 ≤ n → search.MeansWith j n m ws m′ → search.IsAnswered j n m ws m′
+      which : (n : ℕ) → 1 ≤ n → AnsweredWith (machine j) slot-size slot-bytes n m ws m′ → IsAnswered (machine j) slot-size slot-bytes n m ws m′
       which zero l k = absurd (omega arith)
       which (suc n) l k = k
 
 -- the words that a claim of the list fixes, with its number of slots lent
 module _ (bytes : List ℕ) (N : ℕ) where
-  abbrev pub Searched : (List ℕ → search.Lent → Type 0) → Type 0
-  Searched P = (m m′ : search.Lent) (ws : List ℕ) → search.slots-lent m ≡ N → search.SearchMeans bytes m ws m′ → P ws m′
+  abbrev pub Searched : (List ℕ → Lent → Type 0) → Type 0
+  Searched P = (m m′ : Lent) (ws : List ℕ) → slots-of m ≡ N → SearchPromise bytes m ws m′ → P ws m′
 
   abbrev pub Fixes : Claim → Type 0
   Fixes (search-reaches n w) = Searched (λ ws m′. (ws ≡ reachable-words (length w) n) × (take (length w) (m′ .schedule) ≡ w))
   Fixes (search-never n) = Searched (λ ws m′. ws ≡ unreachable-words n)
-  Fixes search-unknown = Searched (λ ws m′. ws ≡ search.answer-words (unknown N))
-  Fixes (fences-say a) = (ws : List ℕ) → fences.FencesMean bytes ws → ws ≡ fences.checked-words a
-  Fixes (replay-says w a) = (ws : List ℕ) → replay.ReplayMeans bytes w ws → ws ≡ replay.replayed-words a
+  Fixes search-unknown = Searched (λ ws m′. ws ≡ answer-words (unknown N))
+  Fixes (fences-say a) = (ws : List ℕ) → fences.FencePromise bytes ws → ws ≡ fences.checked-words a
+  Fixes (replay-says w a) = (ws : List ℕ) → replay.ReplayPromise bytes w ws → ws ≡ replay.replayed-words a
   Fixes (refuses number offset) =
-      ((ws : List ℕ) → fences.FencesMean bytes ws → ws ≡ fences.refusal-words number offset)
-      × ((w ws : List ℕ) → replay.ReplayMeans bytes w ws → ws ≡ replay.refusal-words number offset)
-      × ((m m′ : search.Lent) (ws : List ℕ) → search.SearchMeans bytes m ws m′ → search.IsRefused number offset m ws m′)
+      ((ws : List ℕ) → fences.FencePromise bytes ws → ws ≡ refusal-words number offset)
+      × ((w ws : List ℕ) → replay.ReplayPromise bytes w ws → ws ≡ refusal-words number offset)
+      × ((m m′ : Lent) (ws : List ℕ) → SearchPromise bytes m ws m′ → IsRefused number offset m ws m′)
 
   fixed-accepted : 1 ≤ N → (j : Job) → decode bytes ≡ accepted j → (c : Claim) → Meant N c (accepted j) → Fixes c
   fixed-accepted some-slot j is (search-reaches n w) h =
@@ -92,7 +97,7 @@ module _ (bytes : List ℕ) (N : ℕ) where
       (let x = answered bytes j is N some-slot m m′ ws slots k in
       let o = x .outcome in
       let f = reaches-fixed (machine j) N o (length w) n w (h .0) (h .1) (h .2) (o .answer) (x .means) in (
-        x .answer ∙ ap search.answer-words (f .0),
+        x .answer ∙ ap answer-words (f .0),
         ap (λ z. take (length w) (z .schedule)) (x .buffers)
             ∙ take-at (o .schedule) (drop (length (o .schedule)) (m .schedule)) (length w) (ap length (f .1))
             ∙ f .1,
@@ -101,11 +106,11 @@ module _ (bytes : List ℕ) (N : ℕ) where
       λ m m′ ws slots k.
       (let x = answered bytes j is N some-slot m m′ ws slots k in
       let nowhere : NoGoal (machine j) = λ y g r. h .0 (r .way) y (r .leads) g in
-      x .answer ∙ ap search.answer-words (never-fixed (machine j) N (x .outcome) n nowhere (h .1) (h .2) (x .outcome .answer) (x .means)))
+      x .answer ∙ ap answer-words (never-fixed (machine j) N (x .outcome) n nowhere (h .1) (h .2) (x .outcome .answer) (x .means)))
   fixed-accepted some-slot j is search-unknown h =
       λ m m′ ws slots k.
       (let x = answered bytes j is N some-slot m m′ ws slots k in
-      x .answer ∙ ap search.answer-words (unknown-exactly (machine j) N (x .outcome) (x .means) .1 h))
+      x .answer ∙ ap answer-words (unknown-exactly (searchable j) N (x .outcome) (x .means) .1 h))
   fixed-accepted some-slot j is (fences-say a) h =
       λ ws k.
       fences.fences-once bytes ws (fences.checked-words a) k
@@ -113,14 +118,14 @@ module _ (bytes : List ℕ) (N : ℕ) where
   fixed-accepted some-slot j is (replay-says w a) h =
       λ ws k.
       replay.replay-once bytes w ws (replay.replayed-words a) k
-      (subst (λ d. replay.MeansOf d w (replay.replayed-words a)) (sym is) (record { replayed = a; means = h; answer = refl }))
+      (subst (λ d. replay.ReplayOf d w (replay.replayed-words a)) (sym is) (record { replayed = a; means = h; answer = refl }))
   fixed-accepted some-slot j is (refuses number offset) h = absurd h
 
   fixed-refused : (number offset : ℕ) → decode bytes ≡ refused number offset → Fixes (refuses number offset)
   fixed-refused number offset is = (
-    λ ws k. subst (λ d. fences.MeansOf d ws) is k,
-    λ w ws k. subst (λ d. replay.MeansOf d w ws) is k,
-    λ m m′ ws k. subst (λ d. search.MeansOf d m ws m′) is k,
+    λ ws k. subst (λ d. fences.FenceOf d ws) is k,
+    λ w ws k. subst (λ d. replay.ReplayOf d w ws) is k,
+    λ m m′ ws k. subst (λ d. SearchOf d m ws m′) is k,
   )
 
   fixed : 1 ≤ N → (d : Decoded) → decode bytes ≡ d → (c : Claim) → Meant N c d → Fixes c

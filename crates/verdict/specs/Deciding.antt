@@ -8,14 +8,13 @@ use native.Mathlib.Omega.{arith}
 use lib.Dec.{T}
 use lib.ListN.{getD}
 use Rattle.reach.specs.Meaning.{unreachable}
-use Rattle.rules.specs.File.{Decoded, accepted, refused, decode}
+use Rattle.rules.specs.File.{Decoded, accepted, refused, decode, job-of}
 use Rattle.rules.specs.Fences.{fenced}
 use Rattle.rules.specs.declared.Model.{Model}
 use Rattle.rules.specs.declared.Model.the-variants.{Sc, Tso, Pso}
-use Rattle.job.specs.JobOf.{accepted-once}
 use Rattle.job.specs.Laid.{IsAccepted}
 use Rattle.job.specs.declared.Layout.{Layout}
-use Rattle.search.specs.Meaning as search
+use Rattle.reach.specs.Words.{answer-words}
 use Rattle.fences.specs.Meaning as fences
 use Rattle.verdict.specs.Meaning.{ScAsks, MayRelease}
 
@@ -60,21 +59,21 @@ unfolding says-sc
 pso-is-not-sc e = subst T (sym (ap says-sc e)) tt
 
 module _ (bytes : List ℕ) (l : Layout) (a : IsAccepted bytes l) (checked : List ℕ) where
-  pub not-sc : (m : Model) → l .model ≡ m → ¬ (m ≡ Sc) → ScAsks (a .job) checked
+  pub not-sc : (m : Model) → l .model ≡ m → ¬ (m ≡ Sc) → ScAsks (job-of bytes) checked
   not-sc m e n s = absurd (n (sym e ∙ a .laid .model ∙ s))
 
-  module _ (is-sc : l .model ≡ Sc) (flag : Bool) (is-flag : flag ≡ a .job .all-empty) where
-    pub flag-set : flag ≡ true → (r : Bool) → (r ≡ true) ↔ (checked ≡ fences.checked-words fenced) → (r ≡ true) ↔ ScAsks (a .job) checked
+  module _ (is-sc : l .model ≡ Sc) (flag : Bool) (is-flag : flag ≡ job-of bytes .all-empty) where
+    pub flag-set : flag ≡ true → (r : Bool) → (r ≡ true) ↔ (checked ≡ fences.checked-words fenced) → (r ≡ true) ↔ ScAsks (job-of bytes) checked
     flag-set e r h = (λ t s. (sym is-flag ∙ e, h .0 t), λ asks. h .1 (asks (sym (a .laid .model) ∙ is-sc) .1))
 
-    pub flag-unset : flag ≡ false → ¬ (ScAsks (a .job) checked)
+    pub flag-unset : flag ≡ false → ¬ (ScAsks (job-of bytes) checked)
     flag-unset e asks = subst T (sym (asks (sym (a .laid .model) ∙ is-sc) .0) ∙ sym is-flag ∙ e) tt
 
   -- unreachable: what SC asks decides
   pub sc-decides :
-      (found : List ℕ) (n : ℕ) → found ≡ search.answer-words (unreachable n) → (r : Bool) → (r ≡ true) ↔ ScAsks (a .job) checked →
+      (found : List ℕ) (n : ℕ) → found ≡ answer-words (unreachable n) → (r : Bool) → (r ≡ true) ↔ ScAsks (job-of bytes) checked →
       (r ≡ true) ↔ MayRelease bytes found checked
   sc-decides found n e r h = (
-    λ t. record { job = a .job; decoded = a .decoded; states = n; unreachable-only = e; under-sc = h .0 t },
-    λ may. h .1 (subst (λ j. ScAsks j checked) (accepted-once bytes (may .job) (a .job) (may .decoded) (a .decoded)) (may .under-sc)),
+    λ t. record { decoded = a .decoded; states = n; unreachable-only = e; under-sc = h .0 t },
+    λ may. h .1 (may .under-sc),
   )

@@ -7,9 +7,11 @@ use Prim.Native.Nat.{ℕ, _≤_}
 use lib.ListN.{length, take}
 use Rattle.reach.specs.Meaning.{unreachable}
 use Rattle.rules.specs.Job.{Job}
-use Rattle.rules.specs.File.{accepted, decode}
+use Rattle.rules.specs.File.{accepted, decode, job-of}
 use Rattle.rules.specs.Fences.{fenced}
 use Rattle.rules.specs.declared.Model.the-variants.{Sc}
+use Rattle.reach.specs.Words.{answer-words}
+use Rattle.lent.specs.Meaning.{Lent}
 use Rattle.search.specs.Meaning as search
 use Rattle.fences.specs.Meaning as fences
 use Rattle.verdict.specs.declared.Verdict.{Verdict}
@@ -22,16 +24,15 @@ ScAsks j checked = j .model ≡ Sc → (j .all-empty ≡ true) × (checked ≡ f
 -- "RELEASE for unreachable only, and under SC only if the flag is 1 and the program FENCED; else HOLD." Of the bytes of a job, and the
 -- words that the search and the fence check answered.
 pub record MayRelease (bytes found checked : List ℕ) : Type 0 where
-  pub job : Job
-  pub decoded : decode bytes ≡ accepted job
+  pub decoded : decode bytes ≡ accepted (job-of bytes)
   pub states : ℕ
-  pub unreachable-only : found ≡ search.answer-words (unreachable states)
-  pub under-sc : ScAsks job checked
+  pub unreachable-only : found ≡ answer-words (unreachable states)
+  pub under-sc : ScAsks (job-of bytes) checked
 
 -- the whole promise: job, buffers before, verdict, buffers after
-pub record VerdictMeans (bytes : List ℕ) (m : search.Lent) (v : Verdict) (m′ : search.Lent) : Type 0 where
-  pub searched : search.SearchMeans bytes m (search.words (v .search)) m′
-  pub checked : fences.FencesMean bytes (fences.words (v .fences))
+pub record VerdictPromise (bytes : List ℕ) (m : Lent) (v : Verdict) (m′ : Lent) : Type 0 where
+  pub searched : search.SearchPromise bytes m (search.words (v .search)) m′
+  pub checked : fences.FencePromise bytes (fences.words (v .fences))
   pub releases : (v .release ≡ true) ↔ MayRelease bytes (search.words (v .search)) (fences.words (v .fences))
 
 -- the last line of the bench program, in bytes: RELEASE, or HOLD, and the line's end

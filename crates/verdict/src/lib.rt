@@ -5,11 +5,12 @@ use rules::Model;
 ghost use mathlib.Core.Path.{_≡_};
 ghost use mathlib.Core.Bool.{true};
 ghost use mathlib.Core.Logic.{_↔_};
+ghost use Rattle.rules.specs.File.{job-of};
 ghost use Rattle.rules.specs.Fences.{fenced};
 ghost use Rattle.job.specs.Laid.{IsAccepted};
 ghost use Rattle.search.specs.Meaning as search-meaning;
 ghost use Rattle.fences.specs.Meaning as fences-meaning;
-ghost use Rattle.verdict.specs.Meaning.{ScAsks, MayRelease, VerdictMeans, line-of, Spells};
+ghost use Rattle.verdict.specs.Meaning.{ScAsks, MayRelease, VerdictPromise, line-of, Spells};
 ghost use Rattle.verdict.specs.Released.{Released};
 
 // The answers of the search and of the fence check, and whether they allow the release.
@@ -55,7 +56,7 @@ fn is_fenced(checked: fences::Answer) -> bool
 // Whether the job's model lets "unreachable" stand for the hardware: SC does so only for goals with empty buffers, and fenced programs.
 fn model_allows(job: &[u8], l: Layout, checked: fences::Answer) -> bool
     requires { ⌜ IsAccepted (now job) l ⌝ }
-    ensures { λ r. ⌜ ((a : IsAccepted (now (job .entry)) l) → (r ≡ true) ↔ ScAsks (a .job) (fences-meaning.words checked)) ⌝ }
+    ensures { λ r. ⌜ (r ≡ true) ↔ ScAsks (job-of (now (job .entry))) (fences-meaning.words checked) ⌝ }
 {
     let model = l.model;
     match model {
@@ -79,7 +80,7 @@ fn may_release(job: &[u8], found: search::Answer, checked: fences::Answer) -> bo
         search::Answer::Refused(_, _) => false,
         search::Answer::Reachable(_, _) => false,
         search::Answer::Unreachable(_) => match job::decode(job) {
-            Decoded::Accepted(l) => model_allows(job, l, checked),
+            Decoded::Accepted => model_allows(job, job::layout_of(job), checked),
             Decoded::Refused(_, _) => false,
         },
         search::Answer::Unknown(_) => false,
@@ -89,7 +90,7 @@ fn may_release(job: &[u8], found: search::Answer, checked: fences::Answer) -> bo
 // The verdict on any bytes with any lent memory.
 pub fn judge(table: &mut [u8], links: &mut [u32], schedule: &mut [u8], job: &[u8]) -> Verdict
     ensures { λ r. ⌜
-        VerdictMeans (now (job .entry)) (record { table = now (table .entry); links = now (links .entry); schedule = now (schedule .entry) }) r
+        VerdictPromise (now (job .entry)) (record { table = now (table .entry); links = now (links .entry); schedule = now (schedule .entry) }) r
         (record { table = now (table .exit); links = now (links .exit); schedule = now (schedule .exit) })
         ⌝ }
     ensures { λ r. ⌜ (r .release ≡ true → Released (now (job .entry))) ⌝ }

@@ -1,4 +1,4 @@
--- `bench::print_schedule` is safe and ends: `i` stays within the steps. The measure is what is left of them. Assumes nothing.
+-- `bench::print_schedule` is safe and ends: `i` stays within the steps. The measure is what is left of them.
 use Prim.Native.Nat.{_≤_, _-_}
 use borrow.Author.Needs.{needs}
 use lib.ListN.{length}

@@ -1,4 +1,4 @@
--- `bench::read_input` is safe and ends: the count stays within the room. The measure is what is left of the room. Assumes nothing.
+-- `bench::read_input` is safe and ends: the count stays within the room. The measure is what is left of the room.
 use mathlib.Core.Path.{_≡_}
 use Prim.Native.Nat.{_≤_, _-_}
 use borrow.Author.Needs.{needs}

@@ -1,4 +1,4 @@
--- `buffer::empty` meets its contract: sixteen unused bytes are how no pending store is written. Assumes nothing.
+-- `buffer::empty` meets its contract: sixteen unused bytes are how no pending store is written.
 use mathlib.Core.Path.{refl}
 use mathlib.Core.List.{[]}
 use native.Mathlib.Omega.{arith}

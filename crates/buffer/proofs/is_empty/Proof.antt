@@ -1,4 +1,4 @@
--- `buffer::is_empty` meets its contract: as many stores are pending as the count says. Assumes nothing.
+-- `buffer::is_empty` meets its contract: as many stores are pending as the count says.
 use Rattle.buffer.specs.Held.{held-buffer}
 use Rattle.buffer.specs.HeldLaws.{held-number}
 use Rattle.buffer.proofs.PlaceLaws.{empty-by-number}

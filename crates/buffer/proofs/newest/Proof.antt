@@ -1,4 +1,4 @@
--- `buffer::newest` meets its contract. The invariant: the newest of what is left, else what is seen so far. Assumes nothing.
+-- `buffer::newest` meets its contract. The invariant: the newest of what is left, else what is seen so far.
 use mathlib.Core.Path.{sym, ap, _∙_}
 use mathlib.Core.Bool.{cond}
 use mathlib.Core.Logic.{⊎-elim}

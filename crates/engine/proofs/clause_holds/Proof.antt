@@ -1,4 +1,4 @@
--- `engine::clause_holds` meets its contract: by the clause, each arm from the part of the state that it reads. Assumes nothing.
+-- `engine::clause_holds` meets its contract: by the clause, each arm from the part of the state that it reads.
 use mathlib.Core.Path.{subst}
 use native.Mathlib.Omega.{arith}
 use borrow.Author.Needs.{needs}

@@ -1,8 +1,11 @@
--- `engine::execute` meets its contract: the instruction that was read is the one at the thread's place. Assumes nothing.
+-- `engine::execute` meets its contract: the instruction that was read is the one at the thread's place.
+use mathlib.Core.Path.{refl}
 use borrow.Author.Needs.{needs}
-use Rattle.machine.specs.InRange.{runs}
-use Rattle.machine.proofs.MoveLaws.{gives-as, waits}
-use Rattle.engine.proofs.InstructionLaws.{capacity-fits, read-operands, executes-good, executes-none}
+use Rattle.rules.specs.Step.{after-execute}
+use Rattle.rules.specs.File.{job-of}
+use Rattle.state.specs.InRange.{runs}
+use Rattle.state.proofs.PartLaws.{holds-as}
+use Rattle.engine.proofs.StepLaws.{operands-by-read, free-by-read, after-by-read}
 use Rattle.engine.proofs.execute.Statement.{statement}
 use Rattle.engine.proofs.execute.Tie as tie
 
@@ -19,26 +22,36 @@ execute-requires : tie.Need-execute-requires
 execute-requires c κs =
     let start = c .before .before .before .before .before .before in
     let a = start .pre .0 in
-    let read = c .before .before .before .instruction-at in (
-      runs (a .accepted .job) (a .accepted .in-range) _ (a .ok) (a .well) _ (start .pre .1),
-      (read-operands (a .accepted) _ _ (read .result) (read .ensures) _ (c .before .read .given .1), capacity-fits (a .accepted)),
+    let read = c .before .before .before .instruction-at .ensures in
+    let place = c .before .before .before .before .place .ensures in
+    let i = c .before .read .given .1 in (
+      runs (job-of _) (a .accepted .in-range) _ (a .ok) (a .well) _ (start .pre .1 .0),
+      (
+        operands-by-read (a .accepted) _ _ read i,
+        free-by-read (a .accepted) _ _ read _ (start .pre .1 .0) place i (start .pre .1 .1),
+      ),
     )
 
 enum-told : tie.Need-enum-told
 enum-told c = search needs
 
 returns : tie.Need-returns
-returns c a =
+unfolding after-execute
+returns c =
+    let start = c .before .before .before .before .before .before .before in
     let read = c .before .before .before .before .instruction-at in
     let place = c .before .before .before .before .before .place in
-    gives-as (c .execute .ensures)
-    (executes-good (a .accepted) _ _ (read .result) (read .ensures) _ (place .ensures) _ (c .before .before .read .given .1))
+    holds-as (c .execute .ensures)
+    (after-by-read (start .pre .0 .accepted) _ _ (read .ensures) _ (start .pre .1 .0) (place .ensures) (c .before .before .read .given .1))
 
 returns-2 : tie.Need-returns-2
-returns-2 c a =
+unfolding after-execute
+returns-2 c =
+    let start = c .before .before .before .before .before in
     let read = c .before .before .instruction-at in
     let place = c .before .before .before .place in
-    waits (a .ok) (executes-none (a .accepted) _ _ (read .result) (read .ensures) _ (place .ensures) (c .enum-told .given .1))
+    holds-as (record { ok = start .pre .0 .ok; is = refl })
+    (after-by-read (start .pre .0 .accepted) _ _ (read .ensures) _ (start .pre .1 .0) (place .ensures) (c .enum-told .given .1))
 
 pub execute-spec : {M : Type 1} → statement M
 execute-spec =

@@ -1,34 +1,52 @@
--- `engine::executes` meets its contract. The invariant: the mask has the enabled steps below t. Assumes nothing.
-use mathlib.Core.Path.{_≡_, sym, ap, _∙_}
+-- `engine::executes` meets its contract. The invariant: the mask has the enabled steps below t.
+use mathlib.Core.Path.{_≡_, refl, sym, ap, _∙_}
 use Prim.Native.Nat.{_-_, _≤_}
 use native.Mathlib.Omega.{arith}
 use Rattle.rules.specs.Limits.{most-threads}
+use Rattle.rules.specs.File.{job-of}
+use Rattle.rules.specs.State.{place}
 use Rattle.rules.specs.Step.{enabled-below}
-use Rattle.machine.specs.Held.{held}
-use Rattle.engine.specs.At.{At}
+use Rattle.state.specs.Held.{held}
+use Rattle.state.proofs.PartLaws.{buffer-read}
 use Rattle.engine.specs.Mask.{enabled-builds}
-use Rattle.engine.proofs.NextLaws.{enabled-fits-below, enabled-more, enabled-execute}
+use Rattle.engine.proofs.MaskLaws.{enabled-fits-below, enabled-more}
+use Rattle.engine.proofs.StepLaws.{may-of-execute}
 use Rattle.engine.proofs.executes.Statement.{statement}
 use Rattle.engine.proofs.executes.Tie as tie
 
 abbrev Inv-loop : tie.InvT-loop
-Inv-loop job l s mask₀ t₀ mask t =
-    (t ≤ most-threads) × ((a : At job l s) → mask ≡ enabled-below (a .accepted .job) (held s) t)
+Inv-loop job l s mask₀ t₀ mask t = (t ≤ most-threads) × (mask ≡ enabled-below (job-of job) (held s) t)
 
 abbrev μ-loop : tie.MeasureT-loop
 μ-loop job l s mask₀ t₀ mask t = most-threads - t
 
 loop-holds : tie.Need-loop-holds Inv-loop μ-loop
-loop-holds c = (omega arith, λ a. sym (enabled-builds (a .accepted .job) _ .start))
+loop-holds c = (omega arith, sym (enabled-builds (job-of _) _ .start))
+
+cast-place : tie.Need-cast-place Inv-loop μ-loop
+cast-place c = omega arith
+
+element-copy-out-place : tie.Need-element-copy-out-place Inv-loop μ-loop
+element-copy-out-place c = omega arith
+
+cast-own : tie.Need-cast-own Inv-loop μ-loop
+cast-own c = omega arith
+
+mul-own : tie.Need-mul-own Inv-loop μ-loop
+mul-own c = omega arith
+
+element-copy-out-own : tie.Need-element-copy-out-own Inv-loop μ-loop
+element-copy-out-own c = omega arith
 
 may-execute-requires : tie.Need-may-execute-requires Inv-loop μ-loop
-may-execute-requires c κs = (c .before .before .before .pre, c .loop-test .taken)
+may-execute-requires c κs =
+    let start = c .before .before .before .before .before in
+    (start .pre .accepted, buffer-read _ (start .pre .ok) _ (c .before .before .loop-test .taken) .ok)
 
 with-bit-requires : tie.Need-with-bit-requires Inv-loop μ-loop
 with-bit-requires c κs =
-    let a = c .before .before .before .before .pre in
-    let l = c .before .before .loop in
-    record { in-width = omega (arith, l .inv .0); free = rw (l .inv .1 a) (enabled-fits-below (a .accepted .job) _ _) }
+    let l = c .before .before .before .before .loop in
+    record { in-width = omega (arith, l .inv .0); free = rw (l .inv .1) (enabled-fits-below (job-of _) _ _) }
 
 add-t : tie.Need-add-t Inv-loop μ-loop
 add-t c = omega arith
@@ -37,20 +55,18 @@ loop-less : tie.Need-loop-less Inv-loop μ-loop
 loop-less c = omega arith
 
 loop-again : tie.Need-loop-again Inv-loop μ-loop
+unfolding place held
 loop-again c =
-    let below = c .before .before .loop-test .taken in
-    let l = c .before .before .before .loop in (
-      omega (arith, below),
-      λ a.
-          enabled-more (a .accepted .job) _ _ _ _ _ (l .inv .1 a)
-          (enabled-execute (a .accepted .job) _ _ _ below (c .before .may-execute .ensures a))
-          (c .with-bit .ensures),
-    )
+    let start = c .before .before .before .before .before .before .before in
+    let below = c .before .before .before .before .loop-test .taken in
+    let l = c .before .before .before .before .before .loop in
+    let on = c .before .may-execute .ensures ∙ may-of-execute _ _ _ below refl (buffer-read _ (start .pre .ok) _ below .held) in
+    (omega (arith, below), enabled-more (job-of _) _ _ _ _ _ (l .inv .1) on (c .with-bit .ensures))
 
 returns : tie.Need-returns Inv-loop μ-loop
-returns c a =
+returns c =
     let all : c .before .loop .t ≡ most-threads = omega arith in
-    c .before .loop .inv .1 a ∙ ap (enabled-below (a .accepted .job) _) all
+    c .before .loop .inv .1 ∙ ap (enabled-below (job-of _) _) all
 
 pub executes-spec : {M : Type 1} → statement M
 executes-spec =
@@ -59,6 +75,11 @@ executes-spec =
     Inv-loop
     μ-loop
     loop-holds
+    cast-place
+    element-copy-out-place
+    cast-own
+    mul-own
+    element-copy-out-own
     may-execute-requires
     with-bit-requires
     add-t

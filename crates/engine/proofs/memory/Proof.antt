@@ -1,10 +1,10 @@
--- `engine::memory` meets its contract. The invariant: the cells that were passed are the job's. Assumes nothing.
+-- `engine::memory` meets its contract. The invariant: the cells that were passed are the job's.
 use mathlib.Core.Path.{_≡_, refl}
 use Prim.Native.Nat.{ℕ, _-_, _≤_, _<_}
 use native.Mathlib.Omega.{arith}
 use lib.ListN.{length, getD, length-set}
 use Rattle.rules.specs.Limits.{most-variables}
-use Rattle.job.specs.Laid.{IsAccepted}
+use Rattle.rules.specs.File.{job-of}
 use Rattle.engine.proofs.StartLaws.{cell-written}
 use Rattle.engine.proofs.memory.Statement.{statement}
 use Rattle.engine.proofs.memory.Tie as tie
@@ -13,13 +13,13 @@ abbrev Inv-loop : tie.InvT-loop
 Inv-loop job l mem₀ cell₀ mem cell =
     (cell ≤ most-variables)
     × (length mem ≡ most-variables)
-    × ((a : IsAccepted job l) (i : ℕ) → i < cell → getD mem i 0 ≡ getD (a .job .initial) i 0)
+    × ((i : ℕ) → i < cell → getD mem i 0 ≡ getD (job-of job .initial) i 0)
 
 abbrev μ-loop : tie.MeasureT-loop
 μ-loop job l mem₀ cell₀ mem cell = most-variables - cell
 
 loop-holds : tie.Need-loop-holds Inv-loop μ-loop
-loop-holds c = (omega arith, refl, λ a i h. absurd (omega arith))
+loop-holds c = (omega arith, refl, λ i h. absurd (omega arith))
 
 initial-requires : tie.Need-initial-requires Inv-loop μ-loop
 initial-requires c κs = c .before .before .before .pre
@@ -42,13 +42,13 @@ loop-again c =
     let below = c .before .loop-test .taken in (
       omega (arith, below),
       simp length-set (l .inv .1),
-      λ a. cell-written (l .mem) (a .job .initial) (l .cell) (omega arith) (l .inv .2 a) (c .initial .ensures (a .job) (a .laid)),
+      cell-written (l .mem) (job-of _ .initial) (l .cell) (omega arith) (l .inv .2) (c .initial .ensures),
     )
 
 returns : tie.Need-returns Inv-loop μ-loop
-returns c a =
+returns c =
     let l = c .before .loop in
-    record { size = l .inv .1; cells = λ v h. l .inv .2 a v (omega arith) }
+    record { size = l .inv .1; cells = λ v h. l .inv .2 v (omega arith) }
 
 pub memory-spec : {M : Type 1} → statement M
 memory-spec =

@@ -1,4 +1,4 @@
--- `fence_cases::main` is safe and ends. The measure is the number of turns that are left. Assumes nothing.
+-- `fence_cases::main` is safe and ends. The measure is the number of turns that are left.
 use native.Mathlib.Omega.{arith}
 use Rattle.fence_cases.proofs.main.Statement.{statement}
 use Rattle.fence_cases.proofs.main.Tie as tie

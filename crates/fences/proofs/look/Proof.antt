@@ -1,25 +1,19 @@
 -- `fences::look` meets its contract: the set has grown by the places before p.
-use mathlib.Core.Path.{_≡_}
 use mathlib.Core.List.{List}
-use mathlib.Core.Option.{some}
 use Prim.Native.Nat.{ℕ, _-_, _≤_, _<_}
 use native.Mathlib.Omega.{arith}
 use borrow.Author.Needs.{needs}
-use lib.ListN.{length, getElem?}
 use Rattle.rules.specs.declared.Instr.{Instr}
-use Rattle.job.specs.Laid.{IsAccepted}
-use Rattle.job.specs.declared.Layout.{Layout}
-use Rattle.fences.specs.Places.{Grown, grown-none, grown-more, grown-all}
-use Rattle.fences.proofs.ReadLaws.{code-number}
+use Rattle.fences.specs.Places.{thread-of, Grown, grown-none, grown-more, grown-all}
 use Rattle.fences.proofs.look.Statement.{statement}
 use Rattle.fences.proofs.look.Tie as tie
 
-record Looked (bytes : List ℕ) (l : Layout) (t store earlier n met p : ℕ) : Type 0 where
+record Looked (code : List Instr) (store earlier n met p : ℕ) : Type 0 where
   within : p ≤ n
-  grown : (a : IsAccepted bytes l) (code : List Instr) → getElem? (a .job .threads) t ≡ some code → Grown code store (λ q. q < p) earlier met
+  grown : Grown code store (λ q. q < p) earlier met
 
 abbrev Inv-loop : tie.InvT-loop
-Inv-loop job l t store earlier n met₀ p₀ met p = Looked job l t store earlier n met p
+Inv-loop job l t store earlier n met₀ p₀ met p = Looked (thread-of job t) store earlier n met p
 
 abbrev μ-loop : tie.MeasureT-loop
 μ-loop job l t store earlier n met₀ p₀ met p = n - p
@@ -28,7 +22,7 @@ code-length-requires : tie.Need-code-length-requires Inv-loop μ-loop
 code-length-requires c κs = search needs
 
 loop-holds : tie.Need-loop-holds Inv-loop μ-loop
-loop-holds c = record { within = omega arith; grown = λ a code is. grown-none code _ _ }
+loop-holds c = record { within = omega arith; grown = grown-none _ _ _ }
 
 onward-from-requires : tie.Need-onward-from-requires Inv-loop μ-loop
 onward-from-requires c κs = (c .before .before .before .before .pre, omega arith)
@@ -43,15 +37,11 @@ loop-again : tie.Need-loop-again Inv-loop μ-loop
 loop-again c =
     record {
       within = omega arith;
-      grown = λ a code is. grown-more code _ _ _ _ _ (c .before .before .loop .inv .grown a code is) (c .onward-from .ensures a code is);
+      grown = grown-more _ _ _ _ _ _ (c .before .before .loop .inv .grown) (c .onward-from .ensures);
     }
 
 returns : tie.Need-returns Inv-loop μ-loop
-returns c =
-    λ a code is.
-    let number = code-number a code is _ (c .before .before .code-length .ensures) in
-    let all : c .before .loop .p ≡ length code = omega (arith, number, c .before .loop .inv .within) in
-    grown-all code _ _ _ _ _ all (c .before .loop .inv .grown a code is)
+returns c = grown-all _ _ _ _ _ _ (omega (arith, c .before .before .code-length .ensures)) (c .before .loop .inv .grown)
 
 pub look-spec : {M : Type 1} → statement M
 look-spec =

@@ -1,26 +1,21 @@
 -- `fences::places_met` meets its contract: the last look began with a sound set; it ends when a look adds nothing.
-use mathlib.Core.Path.{_≡_}
 use mathlib.Core.List.{List}
-use mathlib.Core.Option.{some}
 use Prim.Native.Nat.{ℕ, _-_, _^_, _<_}
 use native.Mathlib.Omega.{arith}
-use lib.ListN.{length, getElem?}
+use lib.ListN.{length}
 use Rattle.bits.specs.Bits.{width}
 use Rattle.rules.specs.declared.Instr.{Instr}
-use Rattle.job.specs.Laid.{IsAccepted}
-use Rattle.job.specs.declared.Layout.{Layout}
-use Rattle.fences.specs.Places.{Sound, Grown, sound-none, all-met}
+use Rattle.fences.specs.Places.{thread-of, short, Sound, Grown, sound-none, all-met}
 use Rattle.fences.proofs.places_met.Statement.{statement}
 use Rattle.fences.proofs.places_met.Tie as tie
 
-record Looking (bytes : List ℕ) (l : Layout) (t store earlier met : ℕ) : Type 0 where
+record Looking (code : List Instr) (store earlier met : ℕ) : Type 0 where
   fits : met < 2 ^ width
-  looked :
-      (a : IsAccepted bytes l) (code : List Instr) → getElem? (a .job .threads) t ≡ some code →
-      Sound code store earlier × Grown code store (λ q. q < length code) earlier met
+  sound : Sound code store earlier
+  grown : Grown code store (λ q. q < length code) earlier met
 
 abbrev Inv-loop : tie.InvT-loop
-Inv-loop job l t store earlier₀ met₀ earlier met = Looking job l t store earlier met
+Inv-loop job l t store earlier₀ met₀ earlier met = Looking (thread-of job t) store earlier met
 
 abbrev μ-loop : tie.MeasureT-loop
 μ-loop job l t store earlier₀ met₀ earlier met = 2 ^ width - earlier
@@ -29,7 +24,7 @@ look-requires : tie.Need-look-requires Inv-loop μ-loop
 look-requires c κs = c .before .pre
 
 loop-holds : tie.Need-loop-holds Inv-loop μ-loop
-loop-holds c = record { fits = omega arith; looked = λ a code is. (sound-none code _, c .look .ensures a code is) }
+loop-holds c = record { fits = omega arith; sound = sound-none _ _; grown = c .look .ensures }
 
 look-requires-2 : tie.Need-look-requires-2 Inv-loop μ-loop
 look-requires-2 c κs = c .before .before .before .before .pre
@@ -39,19 +34,10 @@ loop-less c = omega arith
 
 loop-again : tie.Need-loop-again Inv-loop μ-loop
 loop-again c =
-    record {
-      fits = omega arith;
-      looked =
-          λ a code is.
-          let x = c .before .before .loop .inv .looked a code is in
-          (x .1 .sound (x .0), c .look2 .ensures a code is);
-    }
+    record { fits = omega arith; sound = c .before .before .loop .inv .grown .sound (c .before .before .loop .inv .sound); grown = c .look2 .ensures }
 
 returns : tie.Need-returns Inv-loop μ-loop
-returns c =
-    λ a code is.
-    let x = c .before .loop .inv .looked a code is in
-    all-met code _ _ _ (x .0) (x .1) (omega arith)
+returns c = all-met _ _ (short _ _ (c .before .before .before .before .pre .in-range)) _ _ (c .before .loop .inv .sound) (c .before .loop .inv .grown) (omega arith)
 
 pub places-met-spec : {M : Type 1} → statement M
 places-met-spec =

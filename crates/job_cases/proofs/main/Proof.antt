@@ -1,4 +1,4 @@
--- `job_cases::main` is safe and ends. The measure is the number of turns that are left. Assumes nothing.
+-- `job_cases::main` is safe and ends. The measure is the number of turns that are left.
 use native.Mathlib.Omega.{arith}
 use Rattle.job_cases.proofs.main.Statement.{statement}
 use Rattle.job_cases.proofs.main.Tie as tie

@@ -1,14 +1,16 @@
 -- `replay::replay_accepted` meets its contract: the steps before i lead to the state.
-use Prim.Native.Nat.{ℕ, _-_}
+use mathlib.Core.Path.{sym, _∙_}
+use Prim.Native.Nat.{_-_}
 use native.Mathlib.Omega.{arith}
-use borrow.Author.Tests.{not-true, not-false}
 use lib.ListN.{length}
-use Rattle.replay.specs.Steps.{Stepping, stepping-start, at-step, stepping-stuck, stepping-on, stepping-reaches, stepping-short}
+use borrow.Author.Tests.{not-true, not-false}
+use Rattle.rules.specs.File.{job-of}
+use Rattle.replay.specs.Steps.{Stepping, stepping-start, stepping-stuck, stepping-on, stepping-reaches, stepping-short, at-step}
 use Rattle.replay.proofs.replay_accepted.Statement.{statement}
 use Rattle.replay.proofs.replay_accepted.Tie as tie
 
 abbrev Inv-loop : tie.InvT-loop
-Inv-loop job schedule l s₀ i₀ s i = Stepping job l schedule s i
+Inv-loop job schedule l s₀ i₀ s i = Stepping (job-of job) schedule s i
 
 abbrev μ-loop : tie.MeasureT-loop
 μ-loop job schedule l s₀ i₀ s i = length schedule - i
@@ -17,16 +19,23 @@ start-requires : tie.Need-start-requires Inv-loop μ-loop
 start-requires c κs = c .before .before .pre
 
 loop-holds : tie.Need-loop-holds Inv-loop μ-loop
-loop-holds c = stepping-start _ _ _ _ (c .before .before .before .pre) (c .start .ensures)
+loop-holds c = stepping-start _ _ (c .start .ensures)
 
-shared-slice-read-k : tie.Need-shared-slice-read-k Inv-loop μ-loop
-shared-slice-read-k c = omega arith
+shared-slice-read-s : tie.Need-shared-slice-read-s Inv-loop μ-loop
+shared-slice-read-s c = omega arith
 
-step-requires : tie.Need-step-requires Inv-loop μ-loop
-step-requires c κs = at-step _ _ _ _ _ (c .before .before .loop .inv) (c .before .before .before .before .before .before .pre)
+may-requires : tie.Need-may-requires Inv-loop μ-loop
+may-requires c κs = at-step (c .before .before .before .before .before .before .pre) (c .before .before .loop .inv)
 
 returns : tie.Need-returns Inv-loop μ-loop
-returns c = stepping-stuck _ _ _ _ _ (c .before .before .before .before .before .loop .inv) (c .before .before .before .before .loop-test .taken) (c .before .before .before .before .before .before .before .before .before .pre) _ (c .before .before .step .ensures) (not-true _ (c .if1 .taken))
+returns c =
+    let below = c .before .before .before .loop-test .taken in
+    stepping-stuck _ _ (c .before .before .before .before .loop .inv) below (sym (c .before .may .ensures) ∙ not-true _ (c .if1 .taken))
+
+take-requires : tie.Need-take-requires Inv-loop μ-loop
+take-requires c κs =
+    let start = c .before .before .before .before .before .before .before .before in
+    (at-step (start .pre) (c .before .before .before .before .loop .inv), sym (c .before .may .ensures) ∙ not-false _ (c .if1 .left))
 
 add-i : tie.Need-add-i Inv-loop μ-loop
 add-i c = omega arith
@@ -35,16 +44,19 @@ loop-less : tie.Need-loop-less Inv-loop μ-loop
 loop-less c = omega arith
 
 loop-again : tie.Need-loop-again Inv-loop μ-loop
-loop-again c = stepping-on _ _ _ _ _ (c .before .before .before .before .before .before .loop .inv) (c .before .before .before .before .before .loop-test .taken) (c .before .before .before .before .before .before .before .before .before .before .pre) _ (c .before .before .before .step .ensures) (not-false _ (c .before .if1 .left))
+loop-again c =
+    let below = c .before .before .before .before .loop-test .taken in
+    let may = sym (c .before .before .may .ensures) ∙ not-false _ (c .before .if1 .left) in
+    stepping-on _ _ (c .before .before .before .before .before .loop .inv) below may (c .take .ensures)
 
 goal-requires : tie.Need-goal-requires Inv-loop μ-loop
-goal-requires c κs = at-step _ _ _ _ _ (c .before .loop .inv) (c .before .before .before .before .before .pre)
+goal-requires c κs = at-step (c .before .before .before .before .before .pre) (c .before .loop .inv)
 
 returns-2 : tie.Need-returns-2 Inv-loop μ-loop
-returns-2 c = stepping-reaches _ _ _ _ _ (c .before .before .before .loop .inv) (c .before .before .loop-test .left) _ (c .before .goal .ensures) (c .if2 .taken)
+returns-2 c = stepping-reaches _ _ (c .before .before .before .loop .inv) (c .before .before .loop-test .left) (c .before .goal .ensures) (c .if2 .taken)
 
 returns-3 : tie.Need-returns-3 Inv-loop μ-loop
-returns-3 c = stepping-short _ _ _ _ _ (c .before .before .before .loop .inv) (c .before .before .loop-test .left) _ (c .before .goal .ensures) (c .if2 .left)
+returns-3 c = stepping-short _ _ (c .before .before .before .loop .inv) (c .before .before .loop-test .left) (c .before .goal .ensures) (c .if2 .left)
 
 pub replay-accepted-spec : {M : Type 1} → statement M
 replay-accepted-spec =
@@ -54,9 +66,10 @@ replay-accepted-spec =
     μ-loop
     start-requires
     loop-holds
-    shared-slice-read-k
-    step-requires
+    shared-slice-read-s
+    may-requires
     returns
+    take-requires
     add-i
     loop-less
     loop-again

@@ -1,4 +1,4 @@
--- `replay_cases::main` is safe and ends. The measure is the number of turns that are left. Assumes nothing.
+-- `replay_cases::main` is safe and ends. The measure is the number of turns that are left.
 use native.Mathlib.Omega.{arith}
 use Rattle.replay_cases.proofs.main.Statement.{statement}
 use Rattle.replay_cases.proofs.main.Tie as tie

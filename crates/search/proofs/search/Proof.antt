@@ -1,7 +1,7 @@
 -- `search::search` meets its contract: the refusal as it was decoded, or the search of the accepted job.
-use mathlib.Core.Path.{_≡_, sym, subst}
+use mathlib.Core.Path.{sym, _∙_}
 use borrow.Author.Needs.{needs}
-use Rattle.job.specs.Laid.{Means}
+use Rattle.job.specs.JobOf.{is-accepted, is-refused}
 use Rattle.search.specs.Whole.{search-accepted, search-refused}
 use Rattle.search.proofs.search.Statement.{statement}
 use Rattle.search.proofs.search.Tie as tie
@@ -9,11 +9,14 @@ use Rattle.search.proofs.search.Tie as tie
 decode-requires : tie.Need-decode-requires
 decode-requires c κs = search needs
 
-enum-known-l : tie.Need-enum-known-l
-enum-known-l c = search needs
+enum-told : tie.Need-enum-told
+enum-told c = search needs
+
+layout-of-requires : tie.Need-layout-of-requires
+layout-of-requires c κs = is-accepted _ (sym (c .before .before .before .before .before .decode .ensures) ∙ c .before .before .before .enum-told .given .1)
 
 search-accepted-requires : tie.Need-search-accepted-requires
-search-accepted-requires c κs = subst (Means _) (c .before .before .before .before .l .given .1) (c .before .before .before .before .before .before .decode .ensures)
+search-accepted-requires c κs = search needs
 
 enum-known-number : tie.Need-enum-known-number
 enum-known-number c = search needs
@@ -28,19 +31,18 @@ same-length-3 : tie.Need-same-length-3
 same-length-3 c = search needs
 
 returns : tie.Need-returns
-returns c =
-    let a = subst (Means _) (c .before .before .before .before .before .before .before .before .before .before .before .l .given .1) (c .before .before .before .before .before .before .before .before .before .before .before .before .before .decode .ensures) in
-    search-accepted _ _ _ _ _ a (c .before .before .before .before .before .before .search-accepted .ensures a)
+returns c = search-accepted _ _ _ _ (c .before .before .before .before .before .before .before .layout-of .ensures .decoded) (c .before .before .before .before .before .before .search-accepted .ensures)
 
 returns-2 : tie.Need-returns-2
-returns-2 c = search-refused _ _ _ _ (subst (Means _) (c .before .number .given .1) (c .before .before .before .decode .ensures))
+returns-2 c = search-refused _ _ _ _ (is-refused _ _ _ (sym (c .before .before .before .decode .ensures) ∙ c .before .number .given .1))
 
 pub search-spec : {M : Type 1} → statement M
 search-spec =
     tie.close
     (tie.spec
     decode-requires
-    enum-known-l
+    enum-told
+    layout-of-requires
     search-accepted-requires
     enum-known-number
     same-length

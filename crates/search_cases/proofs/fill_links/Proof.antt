@@ -1,4 +1,4 @@
--- `search_cases::fill_links` is safe and ends: `i` stays within the slice, which keeps its length. The measure is what is left of the length. Assumes nothing.
+-- `search_cases::fill_links` is safe and ends: `i` stays within the slice, which keeps its length. The measure is what is left of the length.
 use mathlib.Core.Path.{_≡_}
 use Prim.Native.Nat.{_≤_, _-_}
 use borrow.Author.Needs.{needs}

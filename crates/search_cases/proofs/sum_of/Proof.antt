@@ -1,4 +1,4 @@
--- `search_cases::sum_of` is safe and ends: `i` stays within the slice. The measure is what is left of the length. Assumes nothing.
+-- `search_cases::sum_of` is safe and ends: `i` stays within the slice. The measure is what is left of the length.
 use Prim.Native.Nat.{_≤_, _-_}
 use borrow.Author.Needs.{needs}
 use lib.ListN.{length}

@@ -1,12 +1,10 @@
 -- `tables::clause` meets its contract: each arm is its row of the table, and past the table's end nothing is given.
 use mathlib.Core.Path.{_≡_}
-use mathlib.Core.List.{List}
 use mathlib.Core.Option.{none}
 use Prim.Native.Nat.{ℕ, _≤_}
 use native.Mathlib.Omega.{arith}
 use borrow.Author.Needs.{needs}
 use lib.ListN.{List·getD-eq-default}
-use Rattle.rules.specs.declared.Instr.{Instr}
 use Rattle.rules.specs.File.{clause-of, register-ok, zero-ok}
 use Rattle.tables.proofs.clause.Statement.{statement}
 use Rattle.tables.proofs.clause.Tie as tie
@@ -22,26 +20,26 @@ keep-clause-requires-3 c κs = search needs
 
 returns : tie.Need-returns
 unfolding clause-of register-ok zero-ok
-returns c ts count n = rw (c .before .match .keys1, count, n) (c .keep-clause .ensures)
+returns c = rw (c .before .match .keys1) (c .keep-clause .ensures)
 
 returns-2 : tie.Need-returns-2
 unfolding clause-of register-ok zero-ok
-returns-2 c ts count n = rw (c .before .match .keys2, count) (c .keep-clause2 .ensures)
+returns-2 c = rw (c .before .match .keys2) (c .keep-clause2 .ensures)
 
 returns-3 : tie.Need-returns-3
 unfolding clause-of register-ok zero-ok
-returns-3 c ts count n = rw (c .before .match .keys3) (c .keep-clause3 .ensures)
+returns-3 c = rw (c .before .match .keys3) (c .keep-clause3 .ensures)
 
 returns-4 : tie.Need-returns-4
 unfolding clause-of
-returns-4 c ts count n = rw (c .match .keys4)
+returns-4 c = rw (c .match .keys4)
 
-beyond : (vars kind a b c : ℕ) (ts : List (List Instr)) → 4 ≤ kind → none ≡ clause-of vars ts kind a b c
+beyond : (vars count n kind a b c : ℕ) → 4 ≤ kind → none ≡ clause-of vars count n kind a b c
 unfolding clause-of
-beyond vars kind a b c ts h = rw (List·getD-eq-default _ _ h)
+beyond vars count n kind a b c h = rw (List·getD-eq-default _ _ h)
 
 returns-5 : tie.Need-returns-5
-returns-5 c ts count n = beyond _ (c .before .args .kind) _ _ _ ts (omega (arith, c .match .rest))
+returns-5 c = beyond _ _ _ (c .before .args .kind) _ _ _ (omega (arith, c .match .rest))
 
 pub clause-spec : {M : Type 1} → statement M
 clause-spec =

@@ -2,14 +2,14 @@
 use Prim.Native.Nat.{ℕ, _<_}
 use borrow.Author.Needs.{needs}
 use Rattle.reach.specs.ListLaws.{all-by-getD}
-use Rattle.rules.specs.Limits.{values}
+use Rattle.rules.specs.Limits.{byte-values}
 use Rattle.together.specs.Board.{Bytes}
 use Rattle.verdict.specs.Released.{with-release}
 use Rattle.verdict.proofs.judge.Statement.{statement}
 use Rattle.verdict.proofs.judge.Tie as tie
 
 small : (c : tie.After-shared-slice-known) → Bytes (c .before .before .before .before .args .job .now)
-small c = all-by-getD (λ (k : ℕ). k < values) (c .before .before .before .before .args .job .now) 0 (λ i. c .shared-slice-known .given i .fits)
+small c = all-by-getD (λ (k : ℕ). k < byte-values) (c .before .before .before .before .args .job .now) 0 (λ i. c .shared-slice-known .given i .fits)
 
 search-requires : tie.Need-search-requires
 search-requires c κs = search needs

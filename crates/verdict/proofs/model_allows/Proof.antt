@@ -20,18 +20,18 @@ enum-told-3 : tie.Need-enum-told-3
 enum-told-3 c = search needs
 
 returns : tie.Need-returns
-returns c a =
-    flag-set _ _ a _ (c .before .before .before .enum-told .given .1) _ (c .before .before .flag .ensures (a .job) (a .laid)) (c .before .if1 .taken) _ (c .is-fenced .ensures)
+returns c =
+    flag-set _ _ (c .before .before .before .before .before .before .pre) _ (c .before .before .before .enum-told .given .1) _ (c .before .before .flag .ensures) (c .before .if1 .taken) _ (c .is-fenced .ensures)
 
 returns-2 : tie.Need-returns-2
-returns-2 c a =
-    unsaid (flag-unset _ _ a _ (c .before .before .enum-told .given .1) _ (c .before .flag .ensures (a .job) (a .laid)) (c .if1 .left))
+returns-2 c =
+    unsaid (flag-unset _ _ (c .before .before .before .before .before .pre) _ (c .before .before .enum-told .given .1) _ (c .before .flag .ensures) (c .if1 .left))
 
 returns-3 : tie.Need-returns-3
-returns-3 c a = said (not-sc _ _ a _ _ (c .enum-told2 .given .1) tso-is-not-sc)
+returns-3 c = said (not-sc _ _ (c .before .before .before .pre) _ _ (c .enum-told2 .given .1) tso-is-not-sc)
 
 returns-4 : tie.Need-returns-4
-returns-4 c a = said (not-sc _ _ a _ _ (c .enum-told3 .given .1) pso-is-not-sc)
+returns-4 c = said (not-sc _ _ (c .before .before .before .pre) _ _ (c .enum-told3 .given .1) pso-is-not-sc)
 
 pub model-allows-spec : {M : Type 1} → statement M
 model-allows-spec =

@@ -1,4 +1,4 @@
--- `buffer::flush::first_to` meets its contract. The invariant: what is left to search decides. Assumes nothing.
+-- `buffer::flush::first_to` meets its contract. The invariant: what is left to search decides.
 use Prim.Native.Nat.{_-_}
 use native.Mathlib.Omega.{arith}
 use borrow.Author.Tests.{eq-eqb, ne-eqb}

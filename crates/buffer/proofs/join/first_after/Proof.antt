@@ -1,4 +1,4 @@
--- `buffer::join::first_after` meets its contract. The invariant: what is left to search decides. Assumes nothing.
+-- `buffer::join::first_after` meets its contract. The invariant: what is left to search decides.
 use mathlib.Core.Path.{ap}
 use mathlib.Core.Bool.{not}
 use Prim.Native.Nat.{_-_}

@@ -1,4 +1,4 @@
--- `buffer::join::put_in` meets its contract. The invariant: with the carried pair put in at i, the pairs are those wanted. Assumes nothing.
+-- `buffer::join::put_in` meets its contract. The invariant: with the carried pair put in at i, the pairs are those wanted.
 use mathlib.Core.Path.{refl}
 use Prim.Native.Nat.{_+_, _-_, _≤_}
 use native.Mathlib.Omega.{arith}

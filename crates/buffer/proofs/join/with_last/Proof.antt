@@ -1,4 +1,4 @@
--- `buffer::join::with_last` meets its contract: behind the last is at the count. Assumes nothing.
+-- `buffer::join::with_last` meets its contract: behind the last is at the count.
 use mathlib.Core.Path.{subst}
 use borrow.Author.Needs.{needs}
 use Rattle.buffer.specs.Held.{held-buffer}

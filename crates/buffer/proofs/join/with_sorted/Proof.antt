@@ -1,10 +1,11 @@
--- `buffer::join::with_sorted` meets its contract: the store goes in before the first to a later variable. Assumes nothing.
+-- `buffer::join::with_sorted` meets its contract: the store goes in before the first to a later variable.
 use mathlib.Core.Path.{subst}
+use Prim.Native.Nat.{_≤_}
 use native.Mathlib.Omega.{arith}
 use borrow.Author.Needs.{needs}
+use lib.ListN.{length}
 use Rattle.buffer.specs.Held.{held-buffer}
 use Rattle.buffer.specs.HeldLaws.{held-number}
-use Rattle.buffer.specs.Places.{is-after}
 use Rattle.buffer.specs.Posts.{Holds}
 use Rattle.buffer.proofs.PlaceLaws.{first-within, sorted-place}
 use Rattle.buffer.proofs.join.with_sorted.Statement.{statement}
@@ -17,8 +18,8 @@ put-in-requires : tie.Need-put-in-requires
 put-in-requires c κs =
     let start = c .before in
     let number = held-number (start .args .b) (start .pre .ok) in
-    let within = first-within (is-after (start .args .v)) (held-buffer (start .args .b)) in
-    record { room = start .pre; within = omega (arith, c .first-after .ensures) }
+    let within : c .first-after .result ≤ length (held-buffer (start .args .b)) = rw (c .first-after .ensures) (first-within _ _) in
+    record { room = start .pre; within = omega arith }
 
 returns : tie.Need-returns
 returns c =

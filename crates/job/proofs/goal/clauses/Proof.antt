@@ -1,29 +1,26 @@
 -- `job::goal::clauses` meets its contract: what is left to read from `at` comes as far as all did from the start.
-use mathlib.Core.List.{List}
 use mathlib.Core.Path.{_≡_, sym, _∙_}
 use Prim.Native.Nat.{_≤_, _-_}
 use native.Mathlib.Omega.{arith}
 use native.Mathlib.Nat.{sub-zero}
 use borrow.Author.Needs.{needs}
-use Rattle.rules.specs.declared.Instr.{Instr}
 use Rattle.rules.specs.File.{times, clause}
-use Rattle.job.specs.Threads.{ThreadsLaid}
-use Rattle.job.specs.Passed.{passed}
-use Rattle.job.proofs.Readers.{times-step, times-fault, times-end}
+use Rattle.readers.specs.Passed.{vars-in, passed}
+use Rattle.job.specs.Stages.{threads-of}
+use Rattle.readers.proofs.Readers.{times-step, times-fault, times-end}
 use Rattle.job.proofs.goal.clauses.Statement.{statement}
 use Rattle.job.proofs.goal.clauses.Tie as tie
 
 abbrev Inv-loop : tie.InvT-loop
-Inv-loop job l count start at₀ i₀ at i =
+Inv-loop job s count start at₀ i₀ at i =
     (i ≤ count)
-    × ((threads : List (List Instr)) → ThreadsLaid job (l .vars) l threads →
-    passed (times count (clause job (l .vars) threads) start) ≡ passed (times (count - i) (clause job (l .vars) threads) at))
+    × (passed (times count (clause job (vars-in job) (threads-of job)) start) ≡ passed (times (count - i) (clause job (vars-in job) (threads-of job)) at))
 
 abbrev μ-loop : tie.MeasureT-loop
-μ-loop job l count start at₀ i₀ at i = count - i
+μ-loop job s count start at₀ i₀ at i = count - i
 
 loop-holds : tie.Need-loop-holds Inv-loop μ-loop
-loop-holds c = (omega arith, λ threads h. rw sub-zero)
+loop-holds c = (omega arith, rw sub-zero)
 
 clause-requires : tie.Need-clause-requires Inv-loop μ-loop
 clause-requires c κs = search needs
@@ -35,11 +32,11 @@ enum-known-number : tie.Need-enum-known-number Inv-loop μ-loop
 enum-known-number c = search needs
 
 returns : tie.Need-returns Inv-loop μ-loop
-returns c threads h =
+returns c =
     let d = c .before .before .before in
     let turn = d .before .before .loop in
-    sym (turn .inv .1 threads h
-    ∙ times-fault _ (turn .i) _ _ _ _ (d .before .loop-test .taken) (sym (d .clause .ensures threads h) ∙ c .before .number .given .1))
+    sym (turn .inv .1
+    ∙ times-fault _ (turn .i) _ _ _ _ (d .before .loop-test .taken) (sym (d .clause .ensures) ∙ c .before .number .given .1))
 
 add-i : tie.Need-add-i Inv-loop μ-loop
 add-i c = search needs
@@ -50,15 +47,11 @@ loop-less c = search needs
 loop-again : tie.Need-loop-again Inv-loop μ-loop
 loop-again c =
     let d = c .before .before .before in
-    let turn = d .before .before .loop in (
-      omega arith,
-      λ threads h.
-          turn .inv .1 threads h
-          ∙ times-step _ (turn .i) _ _ _ (d .before .loop-test .taken) (sym (d .clause .ensures threads h) ∙ c .before .next .given .1),
-    )
+    let turn = d .before .before .loop in
+    (omega arith, turn .inv .1 ∙ times-step _ (turn .i) _ _ _ (d .before .loop-test .taken) (sym (d .clause .ensures) ∙ c .before .next .given .1))
 
 returns-2 : tie.Need-returns-2 Inv-loop μ-loop
-returns-2 c threads h = sym (c .before .loop .inv .1 threads h ∙ times-end _ (c .before .loop .i) _ _ (c .loop-test .left))
+returns-2 c = sym (c .before .loop .inv .1 ∙ times-end _ (c .before .loop .i) _ _ (c .loop-test .left))
 
 pub clauses-spec : {M : Type 1} → statement M
 clauses-spec =

@@ -1,8 +1,8 @@
 -- `job::goal::counted` meets its contract: K is the byte at `at`, and then as many clauses, and no byte more.
 use mathlib.Core.Path.{sym, _∙_}
 use borrow.Author.Needs.{needs}
-use Rattle.job.proofs.StageLaws.{counted-passed}
-use Rattle.job.proofs.Fields.{field-passed}
+use Rattle.job.specs.Stages.{clauses-stage}
+use Rattle.readers.proofs.Fields.{field-passed}
 use Rattle.job.proofs.goal.counted.Statement.{statement}
 use Rattle.job.proofs.goal.counted.Tie as tie
 
@@ -25,12 +25,14 @@ enum-known-number : tie.Need-enum-known-number
 enum-known-number c = search needs
 
 returns : tie.Need-returns
-returns c threads make h =
+unfolding clauses-stage
+returns c =
     let d = c .before .before .before .before in
-    rw (counted-passed _ _ _ _ _, ← (d .before .before .field .ensures), d .next .given .1, ← (c .before .clauses .ensures threads h)) (c .ended .ensures)
+    rw (← (d .before .before .field .ensures), d .next .given .1, ← (c .before .clauses .ensures)) (c .ended .ensures)
 
 returns-2 : tie.Need-returns-2
-returns-2 c threads make h = rw (counted-passed _ _ threads make _, ← (c .before .before .before .field .ensures), c .before .number .given .1)
+unfolding clauses-stage
+returns-2 c = rw (← (c .before .before .before .field .ensures), c .before .number .given .1)
 
 pub counted-spec : {M : Type 1} → statement M
 counted-spec =

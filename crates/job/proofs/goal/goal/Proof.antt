@@ -1,7 +1,8 @@
 -- `job::goal::goal` meets its contract: the flag, and then K and the clauses.
-use mathlib.Core.Bool.{true}
 use borrow.Author.Needs.{needs}
-use Rattle.job.proofs.StageLaws.{goal-passed}
+use Rattle.rules.specs.File.{in-range, flag-of}
+use Rattle.job.specs.Stages.{goal-stage}
+use Rattle.readers.proofs.Fields.{same-field, flag-has}
 use Rattle.job.proofs.goal.goal.Statement.{statement}
 use Rattle.job.proofs.goal.goal.Tie as tie
 
@@ -18,11 +19,13 @@ enum-known-number : tie.Need-enum-known-number
 enum-known-number c = search needs
 
 returns : tie.Need-returns
-returns c threads make h =
-    rw (goal-passed _ _ threads make _, ← (c .before .before .before .before .field .ensures), c .before .before .next .given .1) (c .counted .ensures threads (make true) h)
+unfolding goal-stage
+returns c =
+    rw (same-field flag-of (in-range 0 1) flag-has _ 5 _, ← (c .before .before .before .before .field .ensures), c .before .before .next .given .1) (c .counted .ensures)
 
 returns-2 : tie.Need-returns-2
-returns-2 c threads make h = rw (goal-passed _ _ threads make _, ← (c .before .before .before .field .ensures), c .before .number .given .1)
+unfolding goal-stage
+returns-2 c = rw (same-field flag-of (in-range 0 1) flag-has _ 5 _, ← (c .before .before .before .field .ensures), c .before .number .given .1)
 
 pub goal-spec : {M : Type 1} → statement M
 goal-spec =

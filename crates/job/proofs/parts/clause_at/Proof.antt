@@ -1,9 +1,9 @@
 -- `job::parts::clause_at` meets its contract: the layout says where the clauses begin, and the table what four bytes are.
-use mathlib.Core.Path.{_∙_}
+use mathlib.Core.Path.{sym, _∙_}
 use native.Mathlib.Omega.{arith}
 use borrow.Author.Needs.{needs}
-use Rattle.job.specs.Threads.{laid-threads}
-use Rattle.job.proofs.ThreadLaws.{at-past}
+use Rattle.rules.specs.File.{job-of}
+use Rattle.reach.specs.ListLaws.{at-past}
 use Rattle.job.proofs.parts.clause_at.Statement.{statement}
 use Rattle.job.proofs.parts.clause_at.Tie as tie
 
@@ -11,7 +11,9 @@ clause-count-requires : tie.Need-clause-count-requires
 clause-count-requires c κs = search needs
 
 returns : tie.Need-returns
-returns c j h = rw (at-past (j .clauses) (c .before .before .before .args .i) (omega (arith, c .before .clause-count .ensures j h)))
+returns c =
+    let a = c .before .before .before .args in
+    sym (at-past (job-of (a .job .now) .clauses) (a .i) (omega (arith, c .before .clause-count .ensures)))
 
 add-at : tie.Need-add-at
 add-at c = search needs
@@ -27,13 +29,14 @@ add-at-2 c = search needs
 
 clause-from-requires : tie.Need-clause-from-requires
 clause-from-requires c κs =
-    let a = c .before .before .before .before .pre in
-    omega (arith, a .laid .ends, c .before .before .clause-count .ensures (a .job) (a .laid))
+    let laid = c .before .before .before .before .before .before .pre .laid in
+    (laid .starts, omega (arith, laid .goal .ends, c .before .before .before .before .clause-count .ensures))
 
 returns-2 : tie.Need-returns-2
-returns-2 c j h =
-    c .clause-from .ensures (j .threads) (laid-threads _ _ j h)
-    ∙ rw (c .before .wide .ensures, h .vars) (h .clauses _ (omega (arith, c .before .before .before .clause-count .ensures j h)))
+returns-2 c =
+    let laid = c .before .before .before .before .before .before .before .pre .laid in
+    c .clause-from .ensures
+    ∙ rw (c .before .wide .ensures .0) (laid .goal .clauses-are _ (omega (arith, c .before .before .before .before .before .clause-count .ensures)))
 
 pub clause-at-spec : {M : Type 1} → statement M
 clause-at-spec =

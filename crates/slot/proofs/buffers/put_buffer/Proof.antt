@@ -4,7 +4,7 @@ use borrow.Author.Needs.{needs}
 use native.Mathlib.Omega.{arith}
 use lib.ListN.{length-set}
 use Rattle.slot.specs.Bytes.{buffer-bytes}
-use Rattle.slot.proofs.RunLaws.{laid-cons}
+use Rattle.span.specs.SpanLaws.{laid-cons}
 use Rattle.slot.proofs.buffers.put_buffer.Statement.{statement}
 use Rattle.slot.proofs.buffers.put_buffer.Tie as tie
 

@@ -8,8 +8,8 @@ use lib.Seq.{take-length}
 use Rattle.rules.specs.Limits.{most-threads, buffer-size}
 use Rattle.slot.specs.Bytes.{Sized, buffer-bytes, buffers-bytes}
 use Rattle.slot.specs.BytesLaws.{no-buffer}
-use Rattle.slot.specs.Parts.{Laid, laid}
-use Rattle.slot.proofs.RunLaws.{laid-none}
+use Rattle.span.specs.Span.{Laid, laid}
+use Rattle.span.specs.SpanLaws.{laid-none}
 use Rattle.slot.proofs.BufferLaws.{laid-buffer}
 use Rattle.slot.proofs.Sizes.{state-sized}
 use Rattle.slot.proofs.buffers.put_buffers.Statement.{statement}

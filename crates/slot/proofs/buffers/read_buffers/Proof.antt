@@ -7,7 +7,7 @@ use lib.ListN.{length, take, length-set}
 use lib.Seq.{take-all}
 use Rattle.rules.specs.Limits.{most-threads}
 use Rattle.slot.specs.Bytes.{buffers-bytes}
-use Rattle.slot.specs.Parts.{ReadBuffers}
+use Rattle.slot.specs.Table.{ReadBuffers}
 use Rattle.slot.proofs.BufferLaws.{read-more}
 use Rattle.slot.proofs.buffers.read_buffers.Statement.{statement}
 use Rattle.slot.proofs.buffers.read_buffers.Tie as tie

@@ -1,0 +1,45 @@
+-- `buffer::flush::may_flush` meets its contract: by the three models.
+use borrow.Author.Needs.{needs}
+use Rattle.rules.specs.Step.{may-flush}
+use Rattle.buffer.proofs.flush.may_flush.Statement.{statement}
+use Rattle.buffer.proofs.flush.may_flush.Tie as tie
+
+enum-told : tie.Need-enum-told
+enum-told c = search needs
+
+enum-told-2 : tie.Need-enum-told-2
+enum-told-2 c = search needs
+
+is-oldest-to-requires : tie.Need-is-oldest-to-requires
+is-oldest-to-requires c κs = search needs
+
+enum-told-3 : tie.Need-enum-told-3
+enum-told-3 c = search needs
+
+is-pending-to-requires : tie.Need-is-pending-to-requires
+is-pending-to-requires c κs = search needs
+
+returns : tie.Need-returns
+unfolding may-flush
+returns c = rw (c .enum-told .given .1)
+
+returns-2 : tie.Need-returns-2
+unfolding may-flush
+returns-2 c = rw (c .before .enum-told2 .given .1) (c .is-oldest-to .ensures)
+
+returns-3 : tie.Need-returns-3
+unfolding may-flush
+returns-3 c = rw (c .before .enum-told3 .given .1) (c .is-pending-to .ensures)
+
+pub may-flush-spec : {M : Type 1} → statement M
+may-flush-spec =
+    tie.close
+    (tie.spec
+    enum-told
+    enum-told-2
+    is-oldest-to-requires
+    enum-told-3
+    is-pending-to-requires
+    returns
+    returns-2
+    returns-3)

@@ -1,0 +1,122 @@
+// What an instruction does to registers, memory and its thread's buffer, and where its thread goes on.
+use rules::Control;
+use rules::Instr;
+use rules::Model;
+use rules::Source;
+use state::State;
+ghost use mathlib.Core.Path.{_≡_};
+ghost use mathlib.Core.Bool.{true};
+ghost use Prim.Native.Nat.{_<_};
+ghost use Rattle.rules.specs.Limits.{registers-each, most-variables, most-pending};
+ghost use Rattle.rules.specs.State.{buffer};
+ghost use Rattle.rules.specs.Kinds.{wait-of};
+ghost use Rattle.rules.specs.Step as rules;
+ghost use Rattle.rules.specs.Sound.{SourceIn};
+ghost use Rattle.rules.specs.declared.Model.{Model};
+ghost use Rattle.rules.specs.declared.Instr.the-variants.{Add, Load, Xchg};
+ghost use Rattle.state.specs.Held.{held};
+ghost use Rattle.state.specs.Parts.{At, Runs, Holds};
+ghost use Rattle.machine.specs.Operands.{ControlOk, InstrOk};
+
+// Register r becomes r + k; 255 plus 1 is 0.
+fn add(x: State, t: u8, r: u8, k: u8) -> State
+    requires { ⌜ At x t ⌝ }
+    requires { ⌜ r < registers-each ⌝ }
+    ensures { λ y. ⌜ ((m : Model) → Holds y (rules.changed m t (Add r k) (held x))) ⌝ }
+{
+    let sum = std::num::wrapping_add_u8(state::register(x, t, r), k);
+    state::with_register(x, t, r, sum)
+}
+
+// Register r takes the newest pending store of the thread's own to v, else memory.
+fn load(x: State, t: u8, r: u8, v: u8) -> State
+    requires { ⌜ At x t ⌝ }
+    requires { ⌜ r < registers-each ⌝ }
+    requires { ⌜ v < most-variables ⌝ }
+    ensures { λ y. ⌜ ((m : Model) → Holds y (rules.changed m t (Load r v) (held x))) ⌝ }
+{
+    let k = buffer::newest(state::buffer(x, t), v, state::variable(x, v));
+    state::with_register(x, t, r, k)
+}
+
+// What a store carries.
+fn carried(x: State, t: u8, a: Source) -> u8
+    requires { ⌜ At x t ⌝ }
+    requires { ⌜ SourceIn a ⌝ }
+    ensures { λ k. ⌜ k ≡ rules.carried t (held x) a ⌝ }
+{
+    match a {
+        Source::Register(r) => state::register(x, t, r),
+        Source::Constant(k) => k,
+    }
+}
+
+// A store of k to v, which has room: under SC straight to memory, under TSO behind the last, under PSO by its variable.
+fn stored(m: Model, x: State, t: u8, v: u8, k: u8) -> State
+    requires { ⌜ At x t ⌝ }
+    requires { ⌜ v < most-variables ⌝ }
+    requires { ⌜ rules.has-room m most-pending (buffer t (held x)) ≡ true ⌝ }
+    ensures { λ y. ⌜ Holds y (rules.stored m t v k (held x)) ⌝ }
+{
+    match m {
+        Model::Sc => state::with_variable(x, v, k),
+        Model::Tso => {
+            let more = buffer::join::with_last(state::buffer(x, t), v, k);
+            state::with_buffer(x, t, more)
+        }
+        Model::Pso => {
+            let sorted = buffer::join::with_sorted(state::buffer(x, t), v, k);
+            state::with_buffer(x, t, sorted)
+        }
+    }
+}
+
+// Register r and memory's v change places.
+fn xchg(x: State, t: u8, r: u8, v: u8) -> State
+    requires { ⌜ At x t ⌝ }
+    requires { ⌜ r < registers-each ⌝ }
+    requires { ⌜ v < most-variables ⌝ }
+    ensures { λ y. ⌜ ((m : Model) → Holds y (rules.changed m t (Xchg r v) (held x))) ⌝ }
+{
+    let old = state::variable(x, v);
+    let y = state::with_variable(x, v, state::register(x, t, r));
+    state::with_register(y, t, r, old)
+}
+
+// What instruction i of thread t changes.
+pub fn changed(i: Instr, m: Model, x: State, t: u8) -> State
+    requires { ⌜ At x t ⌝ }
+    requires { ⌜ InstrOk i ⌝ }
+    requires { ⌜ rules.free m most-pending (wait-of i) (buffer t (held x)) ≡ true ⌝ }
+    ensures { λ y. ⌜ Holds y (rules.changed m t i (held x)) ⌝ }
+{
+    match i {
+        Instr::Set(r, k) => state::with_register(x, t, r, k),
+        Instr::Add(r, k) => add(x, t, r, k),
+        Instr::Load(r, v) => load(x, t, r, v),
+        Instr::Store(a, v) => stored(m, x, t, v, carried(x, t, a)),
+        Instr::Fence => x,
+        Instr::Xchg(r, v) => xchg(x, t, r, v),
+        Instr::Jeq(_, _, _) => x,
+        Instr::Jmp(_) => x,
+    }
+}
+
+// The place to which thread t goes on.
+pub fn place_after(c: Control, x: State, t: u8) -> u8
+    requires { ⌜ Runs x t ⌝ }
+    requires { ⌜ ControlOk c ⌝ }
+    ensures { λ p. ⌜ p ≡ rules.place-after t c (held x) ⌝ }
+{
+    match c {
+        Control::On => state::place(x, t) + 1,
+        Control::To(p) => p,
+        Control::ToIf(r, k, p) => {
+            if state::register(x, t, r) == k {
+                p
+            } else {
+                state::place(x, t) + 1
+            }
+        }
+    }
+}

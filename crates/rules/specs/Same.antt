@@ -1,0 +1,107 @@
+-- What a search of the machine needs beside it: an equality test of states, and a number that all steps are below.
+use mathlib.Core.Path.{_≡_, refl, ap₂}
+use mathlib.Core.Bool.{Bool, true, false, _&&_}
+use mathlib.Core.List.{List, [], _∷_}
+use mathlib.Core.Option.{none}
+use Prim.Native.Nat.{ℕ, _≤_}
+use native.Mathlib.Omega.{arith}
+use lib.Dec.{T, eqb, eqb→eq, eqb-refl}
+use borrow.Author.Tests.{le-ltb}
+use Rattle.reach.specs.Searchable.{Searchable}
+use Rattle.rules.specs.Limits.{step-bound, most-threads}
+use Rattle.rules.specs.State.{Pending, State}
+use Rattle.rules.specs.Job.{Job}
+use Rattle.rules.specs.Step.{may, next}
+use Rattle.rules.specs.Machine.{machine}
+use Rattle.rules.specs.Tests.{both, of-both, four, of-four}
+
+-- the equality test of states
+unfoldable pub same-list : {A : Type 0} → (A → A → Bool) → List A → List A → Bool
+same-list same [] [] = true
+same-list same [] (y ∷ m) = false
+same-list same (x ∷ l) [] = false
+same-list same (x ∷ l) (y ∷ m) = same x y && same-list same l m
+
+unfoldable pub same-pending : Pending → Pending → Bool
+same-pending p q = eqb (p .variable) (q .variable) && eqb (p .value) (q .value)
+
+unfoldable pub same-state : State → State → Bool
+same-state x y =
+    same-list eqb (x .places) (y .places)
+    && same-list eqb (x .registers) (y .registers)
+    && same-list eqb (x .memory) (y .memory)
+    && same-list (same-list same-pending) (x .buffers) (y .buffers)
+
+module _ {A : Type 0} (same : A → A → Bool) where
+  pub same-list-equal : ((x y : A) → T (same x y) → x ≡ y) → (l m : List A) → T (same-list same l m) → l ≡ m
+  unfolding same-list
+  same-list-equal law [] [] h = refl
+  same-list-equal law [] (y ∷ m) h = absurd h
+  same-list-equal law (x ∷ l) [] h = absurd h
+  same-list-equal law (x ∷ l) (y ∷ m) h =
+      let p = both (same x y) (same-list same l m) h in
+      ap₂ {C = List A} _∷_ (law x y (p .0)) (same-list-equal law l m (p .1))
+
+  same-list-refl : ((x : A) → T (same x x)) → (l : List A) → T (same-list same l l)
+  unfolding same-list
+  same-list-refl law [] = tt
+  same-list-refl law (x ∷ l) = of-both (same x x) (same-list same l l) (law x) (same-list-refl law l)
+
+same-pending-equal : (p q : Pending) → T (same-pending p q) → p ≡ q
+unfolding same-pending
+same-pending-equal p q h =
+    let e = both (eqb (p .variable) (q .variable)) (eqb (p .value) (q .value)) h in
+    λ i. record { variable = eqb→eq (p .variable) (q .variable) (e .0) i; value = eqb→eq (p .value) (q .value) (e .1) i }
+
+same-pending-refl : (p : Pending) → T (same-pending p p)
+unfolding same-pending
+same-pending-refl p = of-both (eqb (p .variable) (p .variable)) (eqb (p .value) (p .value)) (eqb-refl (p .variable)) (eqb-refl (p .value))
+
+pub same-state-equal : (x y : State) → T (same-state x y) → x ≡ y
+unfolding same-state
+same-state-equal x y h =
+    let e =
+    four
+    (same-list eqb (x .places) (y .places))
+    (same-list eqb (x .registers) (y .registers))
+    (same-list eqb (x .memory) (y .memory))
+    (same-list (same-list same-pending) (x .buffers) (y .buffers))
+    h in
+    λ i.
+    record {
+      places = same-list-equal eqb eqb→eq (x .places) (y .places) (e .0) i;
+      registers = same-list-equal eqb eqb→eq (x .registers) (y .registers) (e .1) i;
+      memory = same-list-equal eqb eqb→eq (x .memory) (y .memory) (e .2) i;
+      buffers = same-list-equal (same-list same-pending) (same-list-equal same-pending same-pending-equal) (x .buffers) (y .buffers) (e .3) i;
+    }
+
+pub same-state-refl : (x : State) → T (same-state x x)
+unfolding same-state
+same-state-refl x =
+    of-four
+    (same-list eqb (x .places) (x .places))
+    (same-list eqb (x .registers) (x .registers))
+    (same-list eqb (x .memory) (x .memory))
+    (same-list (same-list same-pending) (x .buffers) (x .buffers))
+    (same-list-refl eqb eqb-refl (x .places))
+    (same-list-refl eqb eqb-refl (x .registers))
+    (same-list-refl eqb eqb-refl (x .memory))
+    (same-list-refl (same-list same-pending) (same-list-refl same-pending same-pending-refl) (x .buffers))
+
+-- no step has a number from the bound upwards
+pub none-beyond : (j : Job) (s : ℕ) (x : State) → step-bound ≤ s → next j s x ≡ none
+unfolding next may
+none-beyond j s x h =
+    let low : most-threads ≤ s = omega arith in
+    rw (le-ltb _ _ low, le-ltb _ _ h)
+
+abbrev pub searchable : Job → Searchable
+searchable j =
+    record {
+      system = machine j;
+      same = same-state;
+      same-equal = same-state-equal;
+      same-refl = same-state-refl;
+      bound = step-bound;
+      beyond = none-beyond j;
+    }

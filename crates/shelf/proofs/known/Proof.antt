@@ -1,0 +1,75 @@
+-- `shelf::known` meets its contract: no slot that was passed holds the bytes.
+use mathlib.Core.Path.{_≡_, refl, sym, _∙_}
+use mathlib.Core.Bool.{true, false, true≢false}
+use Prim.Native.Nat.{ℕ, _*_, _+_, _≤_, _<_, _-_}
+use native.Mathlib.Omega.{arith}
+use borrow.Author.Count.{below-more}
+use lib.ListN.{length}
+use Rattle.lent.specs.Parts.{slot-at}
+use Rattle.shelf.specs.Front.{slot-room}
+use Rattle.shelf.proofs.known.Statement.{statement}
+use Rattle.shelf.proofs.known.Tie as tie
+
+abbrev Inv-loop : tie.InvT-loop
+Inv-loop table count bytes size i₀ i = (i ≤ count) × ((k : ℕ) → k < i → slot-at (length bytes) table k ≡ bytes → ⊥)
+
+abbrev μ-loop : tie.MeasureT-loop
+μ-loop table count bytes size i₀ i = count - i
+
+-- the slot that is compared lies in the table
+room :
+    (c : tie.In-loop Inv-loop μ-loop) →
+    length (c .before .before .before .before .args .bytes .now) * c .before .loop .i + length (c .before .before .before .before .args .bytes .now)
+    ≤ length (c .before .before .before .before .args .table .now)
+room c = slot-room _ _ _ _ (c .loop-test .taken) (c .before .before .before .before .pre)
+
+loop-holds : tie.Need-loop-holds Inv-loop μ-loop
+loop-holds c = (omega arith, λ k h. absurd (omega arith))
+
+mul-same-bytes : tie.Need-mul-same-bytes Inv-loop μ-loop
+mul-same-bytes c = omega (arith, room c)
+
+same-bytes-requires : tie.Need-same-bytes-requires Inv-loop μ-loop
+same-bytes-requires c κs = room c
+
+returns : tie.Need-returns Inv-loop μ-loop
+returns c =
+    let at-loop = c .before .before .before in
+    record {
+      hit = λ e. (at-loop .loop .i, c .before .before .loop-test .taken, c .before .same-bytes .ensures .only (c .if1 .taken));
+      miss = λ e. absurd (true≢false e);
+    }
+
+add-i : tie.Need-add-i Inv-loop μ-loop
+add-i c = omega arith
+
+loop-less : tie.Need-loop-less Inv-loop μ-loop
+loop-less c = omega arith
+
+loop-again : tie.Need-loop-again Inv-loop μ-loop
+loop-again c = (
+  omega arith,
+  below-more _ _ (c .before .before .before .loop .inv .1) (λ e. true≢false (sym (c .before .same-bytes .ensures .each e) ∙ c .if1 .left)),
+)
+
+returns-2 : tie.Need-returns-2 Inv-loop μ-loop
+returns-2 c =
+    record {
+      hit = λ e. absurd (true≢false (sym e));
+      miss = λ e found. c .before .loop .inv .1 (found .0) (omega (arith, found .1)) (found .2);
+    }
+
+pub known-spec : {M : Type 1} → statement M
+known-spec =
+    tie.close
+    (tie.spec
+    Inv-loop
+    μ-loop
+    loop-holds
+    mul-same-bytes
+    same-bytes-requires
+    returns
+    add-i
+    loop-less
+    loop-again
+    returns-2)

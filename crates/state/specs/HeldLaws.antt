@@ -1,0 +1,50 @@
+-- A state's value is as good as the state: written and held undo each other, and values that hold the same state are equal.
+use mathlib.Core.Path.{_≡_, refl, sym, ap, ap₂, _∙_}
+use mathlib.Core.List.{List, [], _∷_, map}
+use lib.ListN.{length-map}
+use Rattle.reach.specs.Lists.{All}
+use Rattle.reach.specs.ListLaws.{all-imp}
+use Rattle.rules.specs.State as rules
+use Rattle.rules.specs.Job.{Job}
+use Rattle.rules.specs.Sound.{JobIn, WellFormed}
+use Rattle.rules.specs.Keeps.{Fits, buffers-fit}
+use Rattle.buffer.specs.Held.{held-buffer, written-buffer, BufferOk}
+use Rattle.buffer.specs.HeldLaws as buffers
+use Rattle.state.specs.Held.{held, written, StateOk}
+use Rattle.state.specs.declared.State.{State}
+
+-- a list whose elements g gives back from what f makes of them
+map-back : {A B : Type 0} (f : A → B) (g : B → A) (l : List A) → All (λ a. g (f a) ≡ a) l → map g (map f l) ≡ l
+map-back f g [] h = refl
+map-back {A} f g (a ∷ l) h = ap₂ {C = List A} _∷_ (h .0) (map-back f g l (h .1))
+
+all-map :
+    {A B : Type 0} (P : A → Type 0) (Q : B → Type 0) (f : A → B) → ((a : A) → P a → Q (f a)) →
+    (l : List A) → All P l → All Q (map f l)
+all-map P Q f k [] h = tt
+all-map P Q f k (a ∷ l) h = (k a (h .0), all-map P Q f k l (h .1))
+
+pub written-held : (s : State) → StateOk s → written (held s) ≡ s
+unfolding written held
+written-held s ok =
+    let buffers = map-back held-buffer written-buffer (s .bufs) (all-imp _ _ buffers.written-held (s .bufs) (ok .buffers)) in
+    λ i. record { places = s .places; regs = s .regs; mem = s .mem; bufs = buffers i }
+
+module _ (j : Job) (in-range : JobIn j) (x : rules.State) (well : WellFormed j x) where
+  pub held-written : held (written x) ≡ x
+  unfolding written held
+  held-written =
+      let fit = buffers-fit j in-range x well in
+      let buffers = map-back written-buffer held-buffer (x .buffers) (all-imp Fits _ buffers.held-written (x .buffers) fit) in
+      λ i. record { places = x .places; registers = x .registers; memory = x .memory; buffers = buffers i }
+
+  pub written-ok : StateOk (written x)
+  unfolding written
+  written-ok =
+      record {
+        places-number = well .places-number;
+        registers-number = well .registers-number;
+        memory-number = well .memory-number;
+        buffers-number = length-map (x .buffers) written-buffer ∙ well .buffers-number;
+        buffers = all-map Fits BufferOk written-buffer buffers.written-ok (x .buffers) (buffers-fit j in-range x well);
+      }

@@ -1,0 +1,4 @@
+pub mod Held
+pub mod Parts
+pub mod InRange
+pub mod HeldLaws
