@@ -71,7 +71,7 @@ fn may_execute(job: &[u8], l: Layout, t: u8, place: u8, own: Buf) -> bool
     }
 }
 
-// Whether step k may be taken; no number from 36 up is a step.
+// Whether step s may be taken; no number from 36 up is a step.
 pub fn may(job: &[u8], l: Layout, x: State, s: u8) -> bool
     requires { ⌜ At (now job) l x ⌝ }
     ensures { λ r. ⌜ r ≡ steps.may (job-of (now (job .entry))) s (held x) ⌝ }
@@ -104,7 +104,7 @@ fn execute(job: &[u8], l: Layout, x: State, t: u8) -> State
     }
 }
 
-// The state after step k, which may be taken.
+// The state after step s, which may be taken.
 pub fn take(job: &[u8], l: Layout, x: State, s: u8) -> State
     requires { ⌜ At (now job) l x ⌝ }
     requires { ⌜ steps.may (job-of (now job)) s (held x) ≡ true ⌝ }
@@ -157,7 +157,7 @@ fn flushes(model: Model, pending: Buf, t: u8, before: u64) -> u64
     mask
 }
 
-// The steps that may be taken, as one number: bit k is set exactly when step k may be taken.
+// The steps that may be taken, as one number: bit s is set exactly when step s may be taken.
 pub fn enabled(job: &[u8], l: Layout, x: State) -> u64
     requires { ⌜ At (now job) l x ⌝ }
     ensures { λ r. ⌜ r ≡ steps.enabled (job-of (now (job .entry))) (held x) ⌝ }
