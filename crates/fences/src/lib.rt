@@ -209,7 +209,7 @@ pub fn fences(job: &[u8]) -> Answer
     ensures { λ r. ⌜ FencePromise (now (job .entry)) (words r) ⌝ }
 {
     match job::decode(job) {
-        Decoded::Accepted => check_accepted(job, job::layout_of(job)),
+        Decoded::Accepted(model) => check_accepted(job, job::layout_of(job, model)),
         Decoded::Refused(number, offset) => Answer::Refused(number, offset),
     }
 }

@@ -17,13 +17,15 @@ use Rattle.rules.specs.declared.Model.the-variants.{Sc, Tso, Pso}
 use Rattle.rules.specs.declared.Instr.{Instr}
 use Rattle.rules.specs.declared.Clause.{Clause}
 use Rattle.job.specs.declared.Starts.{Starts}
-use Rattle.readers.specs.declared.Next.the-variants.{At}
-use Rattle.readers.specs.Passed.{version-at, model-at, capacity-at, threads-at, variables-at, count-in, vars-in, model-in, or-sc, passed, listed}
-use Rattle.job.specs.Stages.{threads-read, threads-of}
+use Rattle.readers.specs.declared.Next.the-variants.{At, Fault}
+use Rattle.readers.specs.Passed.{version-at, model-at, capacity-at, threads-at, variables-at, count-in, vars-in, model-in, passed, listed, then}
+use Rattle.readers.specs.Stages.{length-stage, head-stage}
+use Rattle.job.specs.Passed.{answer, answer-of}
+use Rattle.job.specs.Stages.{threads-read, threads-of, rest-stage}
 use Rattle.job.specs.Laid.{HeadGood, ThreadsGood, StartsLaid, GoalLaid, Laid}
 use Rattle.readers.proofs.Readers.{items-laid, then-got, times-length}
 use Rattle.readers.proofs.Fields.{range-got, field-then, range-then}
-use Rattle.job.proofs.StageLaws.{values-then}
+use Rattle.job.proofs.StageLaws.{values-then, fields-passed}
 
 capacity-is : (m : Model) (k a : ℕ) → capacity-of m k ≡ some a → a ≡ k
 unfolding capacity-of
@@ -36,7 +38,7 @@ module _ (bytes : List ℕ) where
   pub record Fields (j : Job) : Type 0 where
     pub head : HeadGood bytes
     pub version : getD bytes version-at 0 ≡ j .version
-    pub model : model-in bytes ≡ j .model
+    pub model : model-in bytes ≡ some (j .model)
     pub capacity : getD bytes capacity-at 0 ≡ j .capacity
     pub initial : times (vars-in bytes) (field bytes 6 some) head-size ≡ got (j .initial) (head-size + vars-in bytes)
     pub end : ℕ
@@ -92,13 +94,28 @@ module _ (bytes : List ℕ) where
       (record {
         head = record { there = vars .there; most = count .most };
         version = refl;
-        model = ap or-sc (model .holds);
+        model = model .holds;
         capacity = sym (capacity-is (model .held) _ _ (capacity .holds));
         initial = initial .1;
         end = threads .1;
         threads = threads .2;
         goal = goal .3;
       })
+
+  -- what the bytes are is what the stages come to
+  pub decode-stages : answer-of (decode bytes) ≡ answer (then (then (length-stage bytes) (head-stage bytes)) (rest-stage bytes)) (model-in bytes)
+  unfolding decode decoded length-stage
+  decode-stages = go (length-ok bytes)
+    where
+      read-to : (x : Read Job) → fields bytes length-size ≡ x → answer-of (decoded x) ≡ answer (passed x) (model-in bytes)
+      read-to (got j next) d = rw (fields-got j next d .model)
+      read-to (fault number offset) d = refl
+
+      go :
+          (b : Bool) → answer-of (cond b (decoded (fields bytes length-size)) (refused 1 0))
+          ≡ answer (then (then (cond b (At version-at) (Fault 1 0)) (head-stage bytes)) (rest-stage bytes)) (model-in bytes)
+      go true = read-to (fields bytes length-size) refl ∙ ap (λ n. answer n (model-in bytes)) (fields-passed bytes)
+      go false = refl
 
   accepted-fields : (j : Job) → decode bytes ≡ accepted j → Fields j
   unfolding decode decoded
@@ -114,10 +131,10 @@ module _ (bytes : List ℕ) where
     accepted-threads = let f = accepted-fields j e in record { head = f .head; end = f .end; read = ap passed (f .threads) }
 
     pub accepted-laid :
-        (s : Starts) → StartsLaid bytes s →
-        Laid bytes (record { version = getD bytes version-at 0; model = model-in bytes; capacity = getD bytes capacity-at 0; threads = count-in bytes; vars = vars-in bytes; starts = s }) j
+        (m : Model) → m ≡ j .model → (s : Starts) → StartsLaid bytes s →
+        Laid bytes (record { version = getD bytes version-at 0; model = m; capacity = getD bytes capacity-at 0; threads = count-in bytes; vars = vars-in bytes; starts = s }) j
     unfolding threads-read threads-of field byte
-    accepted-laid s h =
+    accepted-laid m is s h =
         let f = accepted-fields j e in
         let values = items-laid bytes 1 6 _ _ _ _ _ (f .initial) in
         let inside = values .inside (f .head .there) in
@@ -125,7 +142,7 @@ module _ (bytes : List ℕ) where
         let end : f .end ≡ s .goal = cc in
         record {
           version = f .version;
-          model = f .model;
+          model = is;
           capacity = f .capacity;
           threads = sym (times-length _ _ _ _ _ (f .threads));
           vars = sym (values .number);

@@ -15,8 +15,7 @@ use Rattle.rules.specs.declared.Clause.{Clause}
 use Rattle.readers.specs.declared.Next.{Next}
 use Rattle.readers.specs.declared.Next.the-variants.{At, Fault}
 use Rattle.readers.specs.Passed.{version-at, model-at, capacity-at, threads-at, variables-at, vars-in, model-in, passed, listed, chain, then}
-use Rattle.job.specs.Passed.{answer, answer-of}
-use Rattle.readers.specs.Stages.{length-stage, head-stage}
+use Rattle.readers.specs.Stages.{length-stage, capacity-stage, head-stage}
 use Rattle.job.specs.Stages.{values-stage, threads-read, threads-of, ending, clauses-stage, goal-stage, rest-stage}
 use Rattle.job.specs.Laid.{HeadGood}
 use Rattle.readers.proofs.Readers.{item-there, passed-then, passed-first, then-got, times-none, times-next, items-laid, got-of-passed}
@@ -30,11 +29,6 @@ then-first (Fault number offset) b c = refl
 both-at : (a b : Next) (p : ℕ) → then a b ≡ At p → (q : ℕ) × (a ≡ At q) × (b ≡ At p)
 both-at (At q) b p e = (q, refl, e)
 both-at (Fault number offset) b p e = absurd (let z : _≡_ {A = ℕ} 0 1 = cc in omega arith)
-
-answer-decoded : (x : Read Job) → answer-of (decoded x) ≡ answer (passed x)
-unfolding decoded
-answer-decoded (got j next) = refl
-answer-decoded (fault number offset) = refl
 
 module _ (bytes : List ℕ) where
   ended-passed : {A B : Type 0} (r : Reader A) (make : A → B) (at : ℕ) → passed ((r >>= λ a. ended bytes (make a)) at) ≡ ending bytes (passed (r at))
@@ -123,24 +117,13 @@ module _ (bytes : List ℕ) where
       rw (values-behind _ _ _ _ m)
       (passed-then _ _ _ (head-size + vars-in bytes) λ threads w n. rw (← ap listed n) (goal-passed _ w))))))))
 
-  -- what the bytes are is what the stages come to
-  pub decode-stages : answer-of (decode bytes) ≡ answer (then (then (length-stage bytes) (head-stage bytes)) (rest-stage bytes))
-  unfolding decode length-stage
-  decode-stages = go (length-ok bytes)
-    where
-      go :
-          (b : Bool) → answer-of (cond b (decoded (fields bytes length-size)) (refused 1 0))
-          ≡ answer (then (then (cond b (At version-at) (Fault 1 0)) (head-stage bytes)) (rest-stage bytes))
-      go true = answer-decoded (fields bytes length-size) ∙ ap answer fields-passed
-      go false = refl
-
   pub head-good : (p : ℕ) → then (length-stage bytes) (head-stage bytes) ≡ At p → HeadGood bytes
   unfolding head-stage
   head-good p e =
       let version = both-at (length-stage bytes) _ p e .2 in
       let model = both-at (passed (field bytes 2 (in-range file-version file-version) version-at)) _ p version .2 in
       let capacity = both-at (passed (field bytes 3 model-of model-at)) _ p model .2 in
-      let count = both-at (passed (field bytes 3 (capacity-of (model-in bytes)) capacity-at)) _ p capacity .2 in
+      let count = both-at (capacity-stage bytes) _ p capacity .2 in
       let both = both-at (passed (field bytes 3 (in-range 1 most-threads) threads-at)) _ p count in
       let held = got-of-passed (field bytes 3 (in-range 1 most-threads) threads-at) _ (both .1) in
       let t = range-got 1 most-threads _ (held .0) (field-got bytes 3 _ threads-at (held .0) _ (held .1) .holds) in

@@ -8,6 +8,7 @@ use lib.ListN.{getD}
 use lib.Seq.{ext-getD}
 use Rattle.rules.specs.File.{accepted, refused, decode, held-job, job-of}
 use Rattle.rules.specs.File as file
+use Rattle.rules.specs.declared.Model.{Model}
 use Rattle.job.specs.declared.Layout.{Layout}
 use Rattle.job.specs.declared.Starts.{Starts}
 use Rattle.readers.specs.declared.Next.the-variants.{At}
@@ -15,15 +16,15 @@ use Rattle.job.specs.declared.Decoded.{Decoded}
 use Rattle.job.specs.declared.Decoded.the-variants.{Accepted, Refused}
 use Rattle.readers.specs.Passed.{count-in}
 use Rattle.job.specs.Passed.{answer-of}
-use Rattle.job.specs.Laid.{StartsLaid, IsAccepted}
+use Rattle.job.specs.Laid.{StartsLaid, AcceptedUnder, IsAccepted}
 
--- bytes that the decoder accepts hold a job
-pub is-accepted : (bytes : List ℕ) → answer-of (decode bytes) ≡ Accepted → decode bytes ≡ accepted (job-of bytes)
+-- bytes that the decoder accepts hold a job, and its model is the one given
+pub is-accepted : (bytes : List ℕ) (m : Model) → answer-of (decode bytes) ≡ Accepted m → AcceptedUnder bytes m
 unfolding job-of held-job
-is-accepted bytes e = go (decode bytes) e
+is-accepted bytes m e = let h = go (decode bytes) e in record { decoded = h .0; model = h .1 }
   where
-    go : (d : file.Decoded) → answer-of d ≡ Accepted → d ≡ accepted (held-job d)
-    go (accepted j) e = refl
+    go : (d : file.Decoded) → answer-of d ≡ Accepted m → (d ≡ accepted (held-job d)) × (m ≡ held-job d .model)
+    go (accepted j) e = let is : j .model ≡ m = cc in (refl, sym is)
     go (refused number offset) e = absurd (let z : _≡_ {A = ℕ} 0 1 = cc in omega arith)
 
 -- it refuses by the file's own number and offset

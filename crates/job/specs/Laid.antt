@@ -10,6 +10,7 @@ use Rattle.rules.specs.Job.{Job}
 use Rattle.rules.specs.File as file
 use Rattle.rules.specs.Sound.{JobIn}
 use Rattle.rules.specs.declared.Clause.{Clause}
+use Rattle.rules.specs.declared.Model.{Model}
 use Rattle.job.specs.declared.Layout.{Layout}
 use Rattle.job.specs.declared.Starts.{Starts}
 use Rattle.readers.specs.declared.Next.the-variants.{At}
@@ -54,6 +55,11 @@ pub record Laid (bytes : List ℕ) (l : Layout) (j : Job) : Type 0 where
   pub starts : StartsLaid bytes (l .starts)
   pub code : threads-of bytes ≡ j .threads
   pub goal : GoalLaid bytes (l .starts .goal) (j .all-empty) (j .clauses)
+
+-- bytes that hold a job, and its model
+pub record AcceptedUnder (bytes : List ℕ) (m : Model) : Type 0 where
+  pub decoded : file.decode bytes ≡ file.accepted (file.job-of bytes)
+  pub model : m ≡ file.job-of bytes .model
 
 -- bytes that hold a job, and its layout
 pub record IsAccepted (bytes : List ℕ) (l : Layout) : Type 0 where

@@ -5,12 +5,14 @@ use Prim.Native.Nat.{ℕ, _+_}
 use lib.ListN.{length, getD}
 use Rattle.rules.specs.File.{accepted, refused, clause-of}
 use Rattle.rules.specs.File as file
+use Rattle.rules.specs.declared.Model.{Model}
 use Rattle.rules.specs.declared.Instr.{Instr}
 use Rattle.rules.specs.declared.Clause.{Clause}
 use Rattle.job.specs.declared.PlaceRead.{PlaceRead}
 use Rattle.job.specs.declared.PlaceRead.the-variants as PlaceReads
 use Rattle.readers.specs.declared.Next.{Next}
 use Rattle.readers.specs.declared.Next.the-variants.{At, Fault}
+use Rattle.readers.specs.Passed.{model-at}
 use Rattle.job.specs.declared.Decoded.{Decoded}
 use Rattle.job.specs.declared.Decoded.the-variants.{Accepted, Refused}
 
@@ -22,12 +24,13 @@ abbrev pub clause-in-bytes : List ℕ → (vars : ℕ) → List (List Instr) →
 clause-in-bytes bytes vars threads at =
     clause-of vars (length threads) (length (getD threads (getD bytes (at + 1) 0) [])) (getD bytes at 0) (getD bytes (at + 1) 0) (getD bytes (at + 2) 0) (getD bytes (at + 3) 0)
 
--- reading that came to the end, or to a fault
-abbrev pub answer : Next → Decoded
-answer (At next) = Accepted
-answer (Fault number offset) = Refused number offset
+-- reading that came to the end, under the model that was read, or to a fault
+abbrev pub answer : Next → Option Model → Decoded
+answer (At next) (some m) = Accepted m
+answer (At next) none = Refused 3 model-at
+answer (Fault number offset) m = Refused number offset
 
--- what bytes are, the job left in them
+-- what bytes are, the job left in them but for its model
 abbrev pub answer-of : file.Decoded → Decoded
-answer-of (accepted j) = Accepted
+answer-of (accepted j) = Accepted (j .model)
 answer-of (refused number offset) = Refused number offset

@@ -1,6 +1,8 @@
 // The job file: any bytes in, accepted or the refusal's number and offset out; and where the parts of an accepted job stand.
 use readers::CAPACITY_AT;
+use readers::HEAD_OUT_OF_RANGE;
 use readers::MODEL_AT;
+use readers::ModelRead;
 use readers::NOT_WHOLE;
 use readers::Next;
 use readers::THREADS_AT;
@@ -17,9 +19,10 @@ mod threads; // threads.rt: where the threads begin, and how long they are
 
 ghost use mathlib.Core.Path.{_≡_};
 ghost use Rattle.rules.specs.File as file;
+ghost use Rattle.readers.specs.Passed.{model-read};
 ghost use Rattle.job.specs.Passed as passed;
 ghost use Rattle.job.specs.Stages.{rest-stage};
-ghost use Rattle.job.specs.Laid.{HeadGood, IsAccepted};
+ghost use Rattle.job.specs.Laid.{HeadGood, AcceptedUnder, IsAccepted};
 
 // Where each thread's n stands, 0 for a thread that the job doesn't have; and the goal's flag, with K and the clauses behind it.
 pub struct Starts {
@@ -37,8 +40,9 @@ pub struct Layout {
     pub starts: Starts,
 }
 
+// A job that is accepted, with its model; or the refusal's number and offset.
 pub enum Decoded {
-    Accepted,
+    Accepted(Model),
     Refused(u8, usize),
 }
 
@@ -48,11 +52,15 @@ pub enum PlaceRead {
     Ended,
 }
 
-fn answer(n: Next) -> Decoded
-    ensures { λ r. ⌜ r ≡ passed.answer n ⌝ }
+// What reading has come to, under the model that was read.
+fn answer(n: Next, m: ModelRead) -> Decoded
+    ensures { λ r. ⌜ r ≡ passed.answer n (model-read m) ⌝ }
 {
     match n {
-        Next::At(_) => Decoded::Accepted,
+        Next::At(_) => match m {
+            ModelRead::Names(model) => Decoded::Accepted(model),
+            ModelRead::NamesNone => Decoded::Refused(HEAD_OUT_OF_RANGE, MODEL_AT),
+        },
         Next::Fault(number, offset) => Decoded::Refused(number, offset),
     }
 }
@@ -80,20 +88,20 @@ pub fn decode(job: &[u8]) -> Decoded
     let length = readers::length_field(job);
     let head = readers::head_fields(job);
     match readers::first(length, head) {
-        Next::At(_) => answer(behind_head(job)),
+        Next::At(_) => answer(behind_head(job), readers::model(job[MODEL_AT])),
         Next::Fault(number, offset) => Decoded::Refused(number, offset),
     }
 }
 
-// The layout of a job that the decoder accepts.
-pub fn layout_of(job: &[u8]) -> Layout
-    requires { ⌜ file.decode (now job) ≡ file.accepted (file.job-of (now job)) ⌝ }
+// The layout of a job that the decoder accepts, and the model that it then gives.
+pub fn layout_of(job: &[u8], model: Model) -> Layout
+    requires { ⌜ AcceptedUnder (now job) model ⌝ }
     ensures { λ r. ⌜ IsAccepted (now (job .entry)) r ⌝ }
 {
     let starts = threads::starts(job);
     Layout {
         version: job[VERSION_AT],
-        model: readers::model(job[MODEL_AT]),
+        model,
         capacity: job[CAPACITY_AT],
         threads: job[THREADS_AT],
         vars: job[VARIABLES_AT],

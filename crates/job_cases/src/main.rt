@@ -17,7 +17,7 @@ fn print_number(n: u64) {
 
 fn print_line(answer: Decoded) {
     match answer {
-        Decoded::Accepted => {
+        Decoded::Accepted(_) => {
             io::write_all(STDOUT_FILENO, b"ACCEPTED");
         }
         Decoded::Refused(number, offset) => {

@@ -8,8 +8,9 @@ use Rattle.rules.specs.Limits.{length-size}
 use Rattle.rules.specs.File.{Read, got, fault, model-of, instruction-of}
 use Rattle.rules.specs.declared.Instr.{Instr}
 use Rattle.rules.specs.declared.Model.{Model}
-use Rattle.rules.specs.declared.Model.the-variants.{Sc}
 use Rattle.readers.specs.declared.Item.{Item}
+use Rattle.readers.specs.declared.ModelRead.{ModelRead}
+use Rattle.readers.specs.declared.ModelRead.the-variants as ModelReads
 use Rattle.readers.specs.declared.Next.{Next}
 use Rattle.readers.specs.declared.Next.the-variants.{At, Fault}
 
@@ -36,13 +37,13 @@ count-in bytes = getD bytes threads-at 0
 abbrev pub vars-in : List ℕ → ℕ
 vars-in bytes = getD bytes variables-at 0
 
--- the model; a byte that names none is refused, and SC stands for it
-abbrev pub or-sc : Option Model → Model
-or-sc none = Sc
-or-sc (some m) = m
+-- the model, if the byte names one
+abbrev pub model-read : ModelRead → Option Model
+model-read (ModelReads.Names m) = some m
+model-read ModelReads.NamesNone = none
 
-abbrev pub model-in : List ℕ → Model
-model-in bytes = or-sc (model-of (getD bytes model-at 0))
+abbrev pub model-in : List ℕ → Option Model
+model-in bytes = model-of (getD bytes model-at 0)
 
 -- the bytes of an item that begins at an offset
 pub record ItemAt (bytes : List ℕ) (at : ℕ) (i : Item) : Type 0 where

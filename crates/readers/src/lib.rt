@@ -18,8 +18,8 @@ ghost use lib.ListN.{length};
 ghost use Rattle.rules.specs.Limits.{byte-values, item-size};
 ghost use Rattle.rules.specs.File as file;
 ghost use Rattle.tables.specs.Told.{instr-of};
-ghost use Rattle.readers.specs.Passed.{ItemAt, capacity-at, model-in, or-sc, passed, then, instruction-in-bytes};
-ghost use Rattle.readers.specs.Stages.{length-stage, head-stage};
+ghost use Rattle.readers.specs.Passed.{ItemAt, capacity-at, model-read, passed, then, instruction-in-bytes};
+ghost use Rattle.readers.specs.Stages.{length-stage, capacity-stage, head-stage};
 
 // The refusals of 01, by number; the search has one more.
 
@@ -69,6 +69,12 @@ pub struct Item {
 pub enum Next {
     At(usize),
     Fault(u8, usize),
+}
+
+// What a byte is as a model: one that names none is refused, and nothing stands for it.
+pub enum ModelRead {
+    Names(Model),
+    NamesNone,
 }
 
 pub fn wide(x: u8) -> usize
@@ -122,19 +128,27 @@ pub fn first(a: Next, b: Next) -> Next
     }
 }
 
+// C under a model.
+fn capacity_under(job: &[u8], m: Model) -> Next
+    ensures { λ r. ⌜ r ≡ passed (file.field (now (job .entry)) 3 (file.capacity-of m) capacity-at) ⌝ }
+{
+    match m {
+        Model::Sc => field(job, CAPACITY_AT, HEAD_OUT_OF_RANGE, 0, 0),
+        Model::Tso => field(job, CAPACITY_AT, HEAD_OUT_OF_RANGE, 1, MOST_PENDING),
+        Model::Pso => field(job, CAPACITY_AT, HEAD_OUT_OF_RANGE, 1, MOST_PENDING),
+    }
+}
+
 // C, whose range goes by the model before it.
 fn capacity(job: &[u8]) -> Next
-    ensures { λ r. ⌜
-        r ≡ passed (file.field (now (job .entry)) 3 (file.capacity-of (model-in (now (job .entry)))) capacity-at)
-        ⌝ }
+    ensures { λ r. ⌜ r ≡ capacity-stage (now (job .entry)) ⌝ }
 {
     if job.len() <= MODEL_AT {
         return Next::Fault(NOT_WHOLE, CAPACITY_AT);
     }
     match model(job[MODEL_AT]) {
-        Model::Sc => field(job, CAPACITY_AT, HEAD_OUT_OF_RANGE, 0, 0),
-        Model::Tso => field(job, CAPACITY_AT, HEAD_OUT_OF_RANGE, 1, MOST_PENDING),
-        Model::Pso => field(job, CAPACITY_AT, HEAD_OUT_OF_RANGE, 1, MOST_PENDING),
+        ModelRead::Names(m) => capacity_under(job, m),
+        ModelRead::NamesNone => Next::Fault(HEAD_OUT_OF_RANGE, MODEL_AT),
     }
 }
 
@@ -150,15 +164,15 @@ pub fn head_fields(job: &[u8]) -> Next
     first(version, first(model, first(pending, first(threads, vars))))
 }
 
-// The model that a byte names. One that names none is refused as a field, and SC stands for it.
-pub fn model(k: u8) -> Model
-    ensures { λ r. ⌜ r ≡ or-sc (file.model-of k) ⌝ }
+// The model that a byte names.
+pub fn model(k: u8) -> ModelRead
+    ensures { λ r. ⌜ model-read r ≡ file.model-of k ⌝ }
 {
     match k {
-        0 => Model::Sc,
-        1 => Model::Tso,
-        2 => Model::Pso,
-        3..=255 => Model::Sc,
+        0 => ModelRead::Names(Model::Sc),
+        1 => ModelRead::Names(Model::Tso),
+        2 => ModelRead::Names(Model::Pso),
+        3..=255 => ModelRead::NamesNone,
     }
 }
 

@@ -40,7 +40,7 @@ pub fn replay(job: &[u8], schedule: &[u8]) -> Answer
     ensures { λ r. ⌜ ReplayPromise (now (job .entry)) (now (schedule .entry)) (words r) ⌝ }
 {
     match job::decode(job) {
-        Decoded::Accepted => replay_accepted(job, schedule, job::layout_of(job)),
+        Decoded::Accepted(model) => replay_accepted(job, schedule, job::layout_of(job, model)),
         Decoded::Refused(number, offset) => Answer::Refused(number, offset),
     }
 }

@@ -201,7 +201,13 @@ pub fn search(table: &mut [u8], links: &mut [u32], schedule: &mut [u8], job: &[u
         ⌝ }
 {
     match job::decode(job) {
-        Decoded::Accepted => search_accepted(table, links, schedule, job, job::layout_of(job)),
+        Decoded::Accepted(model) => search_accepted(
+            table,
+            links,
+            schedule,
+            job,
+            job::layout_of(job, model),
+        ),
         Decoded::Refused(number, offset) => Answer::Refused(number, offset),
     }
 }

@@ -80,7 +80,7 @@ fn may_release(job: &[u8], found: search::Answer, checked: fences::Answer) -> bo
         search::Answer::Refused(_, _) => false,
         search::Answer::Reachable(_, _) => false,
         search::Answer::Unreachable(_) => match job::decode(job) {
-            Decoded::Accepted => model_allows(job, job::layout_of(job), checked),
+            Decoded::Accepted(model) => model_allows(job, job::layout_of(job, model), checked),
             Decoded::Refused(_, _) => false,
         },
         search::Answer::Unknown(_) => false,

@@ -9,11 +9,11 @@ use Rattle.fences.proofs.fences.Tie as tie
 decode-requires : tie.Need-decode-requires
 decode-requires c κs = search needs
 
-enum-told : tie.Need-enum-told
-enum-told c = search needs
+enum-known-model : tie.Need-enum-known-model
+enum-known-model c = search needs
 
 layout-of-requires : tie.Need-layout-of-requires
-layout-of-requires c κs = is-accepted _ (sym (c .before .before .decode .ensures) ∙ c .enum-told .given .1)
+layout-of-requires c κs = is-accepted _ _ (sym (c .before .before .before .decode .ensures) ∙ c .before .model .given .1)
 
 check-accepted-requires : tie.Need-check-accepted-requires
 check-accepted-requires c κs = search needs
@@ -32,7 +32,7 @@ fences-spec =
     tie.close
     (tie.spec
     decode-requires
-    enum-told
+    enum-known-model
     layout-of-requires
     check-accepted-requires
     enum-known-number

@@ -1,10 +1,12 @@
 -- `job::decode` meets its contract: the length is judged first, and then the fields from the front.
 use mathlib.Core.Path.{_≡_, sym, _∙_}
+use native.Mathlib.Omega.{arith}
 use borrow.Author.Needs.{needs}
 use Rattle.readers.specs.Passed.{then}
 use Rattle.job.specs.Passed.{answer}
 use Rattle.readers.specs.Stages.{length-stage, head-stage}
-use Rattle.job.proofs.StageLaws.{decode-stages, head-good}
+use Rattle.job.proofs.StageLaws.{head-good}
+use Rattle.job.proofs.FieldsGot.{decode-stages}
 use Rattle.job.proofs.decode.Statement.{statement}
 use Rattle.job.proofs.decode.Tie as tie
 
@@ -26,6 +28,14 @@ enum-told c = search needs
 behind-head-requires : tie.Need-behind-head-requires
 behind-head-requires c κs = head-good _ _ (sym (first-is (c .before .before)) ∙ c .enum-told .given .1)
 
+shared-slice-read-model : tie.Need-shared-slice-read-model
+shared-slice-read-model c =
+    let d = c .before .before in
+    omega (arith, head-good _ _ (sym (first-is (d .before .before)) ∙ d .enum-told .given .1) .there)
+
+model-requires : tie.Need-model-requires
+model-requires c κs = search needs
+
 answer-requires : tie.Need-answer-requires
 answer-requires c κs = search needs
 
@@ -34,8 +44,8 @@ enum-known-number c = search needs
 
 returns : tie.Need-returns
 returns c =
-    let d = c .before .before in
-    rw (decode-stages _, ← first-is (d .before .before), d .enum-told .given .1, ← (c .before .behind-head .ensures)) (c .answer .ensures)
+    let d = c .before .before .before .before in
+    rw (decode-stages _, ← first-is (d .before .before), d .enum-told .given .1, ← (c .before .before .before .behind-head .ensures), ← (c .before .model .ensures)) (c .answer .ensures)
 
 returns-2 : tie.Need-returns-2
 returns-2 c = rw (decode-stages _, ← first-is (c .before .before .before), c .before .number .given .1)
@@ -49,6 +59,8 @@ decode-spec =
     first-requires
     enum-told
     behind-head-requires
+    shared-slice-read-model
+    model-requires
     answer-requires
     enum-known-number
     returns

@@ -9,16 +9,13 @@ use Rattle.job.proofs.layout_of.Statement.{statement}
 use Rattle.job.proofs.layout_of.Tie as tie
 
 starts-requires : tie.Need-starts-requires
-starts-requires c κs = accepted-threads _ _ (c .before .pre)
+starts-requires c κs = accepted-threads _ _ (c .before .pre .decoded)
 
-shared-slice-read-t4 : tie.Need-shared-slice-read-t4
-shared-slice-read-t4 c = search needs
+shared-slice-read-t5 : tie.Need-shared-slice-read-t5
+shared-slice-read-t5 c = search needs
 
-shared-slice-read-model : tie.Need-shared-slice-read-model
-shared-slice-read-model c = search needs
-
-model-requires : tie.Need-model-requires
-model-requires c κs = search needs
+shared-slice-read-t7 : tie.Need-shared-slice-read-t7
+shared-slice-read-t7 c = search needs
 
 shared-slice-read-t9 : tie.Need-shared-slice-read-t9
 shared-slice-read-t9 c = search needs
@@ -26,18 +23,17 @@ shared-slice-read-t9 c = search needs
 shared-slice-read-t11 : tie.Need-shared-slice-read-t11
 shared-slice-read-t11 c = search needs
 
-shared-slice-read-t13 : tie.Need-shared-slice-read-t13
-shared-slice-read-t13 c = search needs
-
 returns : tie.Need-returns
 returns c =
-    let bytes = c .before .before .before .before .before .before .before .before .args .job .now in
-    let accepted = c .before .before .before .before .before .before .before .before .pre in
-    let small = all-by-getD (λ (k : ℕ). k < byte-values) bytes 0 (λ i. c .shared-slice-known6 .given i .fits) in
+    let starts = c .before .before .before .before in
+    let start = starts .before .before in
+    let bytes = start .args .job .now in
+    let accepted = start .pre .decoded in
+    let small = all-by-getD (λ (k : ℕ). k < byte-values) bytes 0 (λ i. c .shared-slice-known5 .given i .fits) in
     record {
       decoded = accepted;
       in-range = accepted-in bytes small _ accepted;
-      laid = rw (c .before .before .before .model .ensures) (accepted-laid bytes _ accepted _ (c .before .before .before .before .before .before .starts .ensures));
+      laid = accepted-laid bytes _ accepted _ (start .pre .model) _ (starts .starts .ensures);
     }
 
 pub layout-of-spec : {M : Type 1} → statement M
@@ -45,10 +41,8 @@ layout-of-spec =
     tie.close
     (tie.spec
     starts-requires
-    shared-slice-read-t4
-    shared-slice-read-model
-    model-requires
+    shared-slice-read-t5
+    shared-slice-read-t7
     shared-slice-read-t9
     shared-slice-read-t11
-    shared-slice-read-t13
     returns)

@@ -8,11 +8,11 @@ use Rattle.replay.proofs.replay.Tie as tie
 decode-requires : tie.Need-decode-requires
 decode-requires c κs = search needs
 
-enum-told : tie.Need-enum-told
-enum-told c = search needs
+enum-known-model : tie.Need-enum-known-model
+enum-known-model c = search needs
 
 layout-of-requires : tie.Need-layout-of-requires
-layout-of-requires c κs = is-accepted _ (sym (c .before .before .decode .ensures) ∙ c .enum-told .given .1)
+layout-of-requires c κs = is-accepted _ _ (sym (c .before .before .before .decode .ensures) ∙ c .before .model .given .1)
 
 replay-accepted-requires : tie.Need-replay-accepted-requires
 replay-accepted-requires c κs = search needs
@@ -30,4 +30,4 @@ returns-2 c =
 
 pub replay-spec : {M : Type 1} → statement M
 replay-spec =
-    tie.close (tie.spec decode-requires enum-told layout-of-requires replay-accepted-requires enum-known-number returns returns-2)
+    tie.close (tie.spec decode-requires enum-known-model layout-of-requires replay-accepted-requires enum-known-number returns returns-2)

@@ -9,11 +9,11 @@ use Rattle.search.proofs.search.Tie as tie
 decode-requires : tie.Need-decode-requires
 decode-requires c κs = search needs
 
-enum-told : tie.Need-enum-told
-enum-told c = search needs
+enum-known-model : tie.Need-enum-known-model
+enum-known-model c = search needs
 
 layout-of-requires : tie.Need-layout-of-requires
-layout-of-requires c κs = is-accepted _ (sym (c .before .before .before .before .before .decode .ensures) ∙ c .before .before .before .enum-told .given .1)
+layout-of-requires c κs = is-accepted _ _ (sym (c .before .before .before .before .before .before .decode .ensures) ∙ c .before .before .before .before .model .given .1)
 
 search-accepted-requires : tie.Need-search-accepted-requires
 search-accepted-requires c κs = search needs
@@ -41,7 +41,7 @@ search-spec =
     tie.close
     (tie.spec
     decode-requires
-    enum-told
+    enum-known-model
     layout-of-requires
     search-accepted-requires
     enum-known-number
