@@ -1,4 +1,4 @@
--- What the bytes of an accepted job hold, and where.
+-- What the bytes of an accepted job hold, and where; and that the stages in a row come to what the bytes are.
 use mathlib.Core.Path.{_≡_, refl, sym, ap, subst, _∙_}
 use mathlib.Core.Bool.{Bool, true, false, cond}
 use mathlib.Core.List.{List}

@@ -10,11 +10,11 @@ use lib.Dec.{eqb}
 use lib.ListN.{length}
 use Rattle.rules.specs.Limits.{file-version, most-threads, most-variables, most-clauses, length-size, head-size}
 use Rattle.rules.specs.Job.{Job}
-use Rattle.rules.specs.File.{Read, got, fault, Reader, read-on, _>>=_, times, judged, byte, field, in-range, model-of, capacity-of, flag-of, clause, ended, fields, length-ok, refused, decoded, decode}
+use Rattle.rules.specs.File.{Read, got, fault, Reader, read-on, _>>=_, times, judged, byte, field, in-range, model-of, flag-of, clause, ended, fields}
 use Rattle.rules.specs.declared.Clause.{Clause}
 use Rattle.readers.specs.declared.Next.{Next}
 use Rattle.readers.specs.declared.Next.the-variants.{At, Fault}
-use Rattle.readers.specs.Passed.{version-at, model-at, capacity-at, threads-at, variables-at, vars-in, model-in, passed, listed, chain, then}
+use Rattle.readers.specs.Passed.{version-at, model-at, capacity-at, threads-at, variables-at, vars-in, passed, listed, chain, then}
 use Rattle.readers.specs.Stages.{length-stage, capacity-stage, head-stage}
 use Rattle.job.specs.Stages.{values-stage, threads-read, threads-of, ending, clauses-stage, goal-stage, rest-stage}
 use Rattle.job.specs.Laid.{HeadGood}
