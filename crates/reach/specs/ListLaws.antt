@@ -155,6 +155,9 @@ module _ {A : Type 0} where
   at-in (y ∷ l) zero x e = inl (cc)
   at-in (y ∷ l) (suc i) x e = inr (at-in l i x e)
 
+  pub all-nth : (P : A → Type 0) (l : List A) → All P l → (i : ℕ) (x : A) → getElem? l i ≡ some x → P x
+  all-nth P l ps i x e = all-at P l ps x (at-in l i x e)
+
   pub in-at : (l : List A) (x : A) → x ∈ l → (i : ℕ) × (getElem? l i ≡ some x)
   in-at [] x h = absurd h
   in-at (y ∷ l) x (inl e) = (0, ap {B = Option A} some (sym e))

@@ -106,6 +106,27 @@ p12 =
 
 -- Jobs beyond the list, one for each rule that the list leaves alone.
 
+-- P9 under SC, with flag 0 and with flag 1; P2 with flag 1
+unfoldable pub p9-sc : List ℕ
+p9-sc = set (set p9 3 0) 4 0
+
+unfoldable pub p9-sc-drained : List ℕ
+p9-sc-drained = set p9-sc 35 1
+
+unfoldable pub p2-drained : List ℕ
+p2-drained = set p2 27 1
+
+-- SC: one thread of no instructions; goal place 0
+unfoldable pub no-instruction : List ℕ
+no-instruction =
+    -- length 13, version 1, SC, C 0, 1 thread, 1 variable, 0
+    0x00 ∷ 0x0D ∷ 0x01 ∷ 0x00 ∷ 0x00 ∷ 0x01 ∷ 0x01 ∷ 0x00
+    -- none
+    ∷ 0x00
+    -- any buffers, 1 clause
+    ∷ 0x00 ∷ 0x01 ∷ 0x01 ∷ 0x00 ∷ 0x00 ∷ 0x00
+    ∷ []
+
 -- TSO, C 2: y=1, x=1, ADD, JEQ not taken, FENCE: stores join at the end whatever their variables, only the FENCE waits
 unfoldable pub waits-apart : List ℕ
 waits-apart =

@@ -18,4 +18,6 @@ pub mod Accepted
 pub mod Keeps
 pub mod SlotLaws
 pub mod Jobs
+pub mod Claims
+pub mod Pins
 pub mod Worked

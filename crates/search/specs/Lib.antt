@@ -5,4 +5,4 @@ pub mod Read
 pub mod Walking
 pub mod Whole
 pub mod Unique
-pub mod Useless
+pub mod Pins

@@ -1,27 +1,31 @@
--- What the promises allow on 01's list: the list's answer and no other. So whatever refuses everything, or always says unknown or
--- unreachable, or makes up counts, breaks its promise at P1; a check that always says OPEN at P9, one that always says FENCED at P1;
--- a replay that always says "reaches" at P10.
+-- What the promises allow on 01's list and on the rows beyond it: the row's answer and no other. So whatever refuses everything, or always
+-- says unknown or unreachable, or makes up counts, breaks its promise at P1; a check that always says OPEN at P9, one that always says
+-- FENCED at P1; a replay that always says "reaches" at P10; a search that writes nothing at P1's slots and links.
 use mathlib.Core.Path.{_≡_, refl, sym, _∙_, ap, subst}
-use mathlib.Core.List.{List}
-use Prim.Native.Nat.{ℕ, zero, suc, _≤_}
+use mathlib.Core.List.{List, _++_}
+use Prim.Native.Nat.{ℕ, zero, suc, _*_, _≤_}
 use native.Mathlib.Omega.{arith}
 use lib.ListN.{length, take, drop}
 use lib.Seq.{take-at}
 use Rattle.reach.specs.Lists.{All}
 use Rattle.reach.specs.ListLaws.{all-imp}
-use Rattle.reach.specs.Meaning.{Answer, reachable, unreachable, unknown, Outcome, LeastGoal, NoGoal, Reached, AtMost, Counts, GoalSchedule, MeansAt, Brings}
+use Rattle.reach.specs.Meaning.{Answer, reachable, unreachable, unknown, Outcome, LeastGoal, NoGoal, Reached, AtMost, Counts, GoalSchedule, MeansAt, Brings, slots-bytes}
 use Rattle.reach.specs.Words.{refusal-words, answer-words}
 use Rattle.reach.specs.Order.{First}
 use Rattle.reach.specs.Promise.{unknown-exactly}
 use Rattle.reach.specs.System.{System}
 use Rattle.reach.specs.Unique.{counts-unique, first-unique, goal-unique}
 use Rattle.rules.specs.Job.{Job}
-use Rattle.rules.specs.File.{Decoded, accepted, refused, decode}
+use Rattle.rules.specs.File.{Decoded, accepted, refused, decode, job-of}
 use Rattle.rules.specs.Limits.{slot-size}
 use Rattle.rules.specs.Slot.{slot-bytes}
 use Rattle.rules.specs.Machine.{machine}
 use Rattle.rules.specs.Same.{searchable}
-use Rattle.rules.specs.Worked.{Claim, search-reaches, search-never, search-unknown, fences-say, replay-says, refuses, Case, CaseHolds, Meant, table, worked}
+use Rattle.rules.specs.State.{State}
+use Rattle.rules.specs.Accepted.{job-of-accepted}
+use Rattle.rules.specs.Claims.{Claim, search-reaches, search-never, search-unknown, slots-follow, links-are, fences-say, replay-says, refuses, Case, CaseHolds, Meant, InTurn}
+use Rattle.rules.specs.Pins.{pins}
+use Rattle.rules.specs.Worked.{table, worked, pinned}
 use Rattle.fences.specs.Meaning as fences
 use Rattle.replay.specs.Meaning as replay
 use Rattle.lent.specs.Meaning.{Lent, IsRefused, IsAnswered, AnsweredWith}
@@ -75,6 +79,13 @@ module _ (bytes : List ℕ) (j : Job) (is : decode bytes ≡ accepted j) (N : �
       which zero l k = absurd (omega arith)
       which (suc n) l k = k
 
+-- the table begins with the bytes of the states to which the schedules lead, one slot after another
+pub record TableFollows (bytes : List ℕ) (schedules : List (List ℕ)) (lent : List ℕ) : Type 0 where
+  pub states : List State
+  pub in-turn : InTurn (job-of bytes) schedules states
+  pub behind : List ℕ
+  pub begins : lent ≡ slots-bytes slot-bytes states ++ behind
+
 -- the words that a claim of the list fixes, with its number of slots lent
 module _ (bytes : List ℕ) (N : ℕ) where
   abbrev pub Searched : (List ℕ → Lent → Type 0) → Type 0
@@ -84,6 +95,8 @@ module _ (bytes : List ℕ) (N : ℕ) where
   Fixes (search-reaches n w) = Searched (λ ws m′. (ws ≡ reachable-words (length w) n) × (take (length w) (m′ .schedule) ≡ w))
   Fixes (search-never n) = Searched (λ ws m′. ws ≡ unreachable-words n)
   Fixes search-unknown = Searched (λ ws m′. ws ≡ answer-words (unknown N))
+  Fixes (slots-follow schedules) = Searched (λ ws m′. TableFollows bytes schedules (m′ .table))
+  Fixes (links-are l) = Searched (λ ws m′. take (length l) (m′ .links) ≡ l)
   Fixes (fences-say a) = (ws : List ℕ) → fences.FencePromise bytes ws → ws ≡ fences.checked-words a
   Fixes (replay-says w a) = (ws : List ℕ) → replay.ReplayPromise bytes w ws → ws ≡ replay.replayed-words a
   Fixes (refuses number offset) =
@@ -111,6 +124,22 @@ module _ (bytes : List ℕ) (N : ℕ) where
       λ m m′ ws slots k.
       (let x = answered bytes j is N some-slot m m′ ws slots k in
       x .answer ∙ ap answer-words (unknown-exactly (searchable j) N (x .outcome) (x .means) .1 h))
+  fixed-accepted some-slot j is (slots-follow schedules) h =
+      λ m m′ ws slots k.
+      (let x = answered bytes j is N some-slot m m′ ws slots k in
+      let o = x .outcome in
+      record {
+        states = o .slots;
+        in-turn = subst (λ z. InTurn z schedules (o .slots)) (sym (job-of-accepted bytes j is)) (h o (x .means));
+        behind = drop (slot-size * length (o .slots)) (m .table);
+        begins = ap (λ z. z .table) (x .buffers);
+      })
+  fixed-accepted some-slot j is (links-are l) h =
+      λ m m′ ws slots k.
+      (let x = answered bytes j is N some-slot m m′ ws slots k in
+      let o = x .outcome in
+      let same : o .links ≡ l = h o (x .means) in
+      ap (λ z. take (length l) (z .links)) (x .buffers) ∙ take-at (o .links) (drop (length (o .links)) (m .links)) (length l) (ap length same) ∙ same)
   fixed-accepted some-slot j is (fences-say a) h =
       λ ws k.
       fences.fences-once bytes ws (fences.checked-words a) k
@@ -136,5 +165,12 @@ module _ (bytes : List ℕ) (N : ℕ) where
 abbrev pub CaseFixed : Case → Type 0
 CaseFixed c = 1 ≤ c .slots → Fixes (c .bytes) (c .slots) (c .claim)
 
+case-fixed : (c : Case) → CaseHolds c → CaseFixed c
+case-fixed c h = λ slots. fixed (c .bytes) (c .slots) slots (decode (c .bytes)) refl (c .claim) h
+
 pub listed : All CaseFixed table
-listed = all-imp CaseHolds CaseFixed (λ c h slots. fixed (c .bytes) (c .slots) slots (decode (c .bytes)) refl (c .claim) h) table worked
+listed = all-imp CaseHolds CaseFixed case-fixed table worked
+
+-- and every row beyond it
+pub pins-listed : All CaseFixed pins
+pins-listed = all-imp CaseHolds CaseFixed case-fixed pins pinned

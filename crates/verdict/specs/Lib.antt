@@ -4,3 +4,4 @@ pub mod Released
 pub mod Unique
 pub mod Steps
 pub mod Deciding
+pub mod Pins

@@ -1,0 +1,116 @@
+-- Worked values of N, and of refusal 7: 01, "Search" and "Refusal numbers and their order".
+use mathlib.Core.Path.{_≡_, refl, subst}
+use mathlib.Core.Bool.{Bool}
+use mathlib.Core.List.{List, [], _∷_}
+use mathlib.Core.Option.{some}
+use Prim.Native.Nat.{ℕ, _/_, min}
+use lib.Dec.{T, eqb, eqb→eq}
+use lib.ListN.{length, set, getElem?}
+use Rattle.reach.specs.Lists.{All}
+use Rattle.reach.specs.ListLaws.{all-nth}
+use Rattle.rules.specs.Limits.{slot-size, most-slots}
+use Rattle.rules.specs.Slot.{slot-bytes}
+use Rattle.rules.specs.Machine.{machine}
+use Rattle.rules.specs.Goal.{every}
+use Rattle.rules.specs.Tests.{both}
+use Rattle.rules.specs.File.{refused, decode, held-job}
+use Rattle.rules.specs.Jobs.{p1}
+use Rattle.rules.specs.Claims.{Case, case, CaseHolds, search-reaches, refuses, reaches-accepted, refusal-meant}
+use Rattle.rules.specs.Pins.{pins}
+use Rattle.rules.specs.Worked.{table, worked, pinned}
+use Rattle.lent.specs.Meaning.{Lent, slots-lent, AnsweredWith}
+use Rattle.search.specs.Meaning.{slots-of, SearchOf, SearchPromise}
+
+-- lent memory by its lengths: table bytes, links, schedule bytes; and the N that it makes up
+pub record Room : Type 0 where
+  pub table : ℕ
+  pub links : ℕ
+  pub schedule : ℕ
+  pub slots : ℕ
+
+abbrev room : ℕ → ℕ → ℕ → ℕ → Room
+room t l s n = record { table = t; links = l; schedule = s; slots = n }
+
+abbrev pub HasSlots : Room → Type 0
+HasSlots r =
+    (m : Lent) → length (m .table) ≡ r .table → length (m .links) ≡ r .links → length (m .schedule) ≡ r .schedule → slots-of m ≡ r .slots
+
+unfoldable pub rooms : List Room
+rooms =
+    -- the table is the smallest: 4 slots and 95 bytes more
+    room 479 9 9 4
+    -- exactly 4 slots
+    ∷ room 384 9 9 4
+    -- the links are
+    ∷ room 960 5 9 5
+    -- the schedule is
+    ∷ room 960 9 6 6
+    -- 65,536 is
+    ∷ room 6400000 66000 66001 65536
+    -- the bench program's
+    ∷ room 61440 640 640 640
+    -- no slot, by each of the three
+    ∷ room 95 9 9 0
+    ∷ room 960 0 9 0
+    ∷ room 960 9 0 0
+    ∷ []
+
+room-test : Room → Bool
+room-test r = eqb (min (r .table / slot-size) (min (r .links) (min (r .schedule) most-slots))) (r .slots)
+
+rooms-right : (l : List Room) → T (every room-test l) → All HasSlots l
+unfolding every room-test slots-lent
+rooms-right [] t = tt
+rooms-right (r ∷ l) t =
+    let p = both (room-test r) (every room-test l) t in
+    let counted = eqb→eq (min (r .table / slot-size) (min (r .links) (min (r .schedule) most-slots))) (r .slots) (p .0) in
+    (λ m t l s. rw (t, l, s) counted, rooms-right l (p .1))
+
+pub rooms-are : All HasSlots rooms
+unfolding every room-test rooms
+rooms-are = rooms-right rooms tt
+
+-- what a search must answer where no slot is lent: its number and offset, and nothing is written
+abbrev pub RefusedWithNoSlot : List ℕ → (number offset : ℕ) → Type 0
+RefusedWithNoSlot bytes number offset =
+    (m m′ : Lent) (ws : List ℕ) → slots-of m ≡ 0 → SearchPromise bytes m ws m′ → (ws ≡ 0 ∷ number ∷ offset ∷ 0 ∷ []) × (m′ ≡ m)
+
+-- "7: search only: no slot, offset 0": P1
+pub no-slot-refused : RefusedWithNoSlot p1 7 0
+unfolding table
+no-slot-refused m m′ ws none h =
+    let row = case 640 p1 (search-reaches 22 (0x00 ∷ 0x00 ∷ 0x01 ∷ 0x01 ∷ [])) in
+    let is = reaches-accepted 640 22 (0x00 ∷ 0x00 ∷ 0x01 ∷ 0x01 ∷ []) (decode p1) (all-nth CaseHolds table worked 0 row refl) in
+    let answered = subst (λ d. SearchOf d m ws m′) is h in
+    let refusal = subst (λ n. AnsweredWith (machine (held-job (decode p1))) slot-size slot-bytes n m ws m′) none answered in
+    (refusal .answer, refusal .untouched)
+
+-- "7 last": a job that has a fault of 1 to 6 is refused by that, with no slot lent too
+refused-first : (bytes : List ℕ) (number offset : ℕ) → decode bytes ≡ refused number offset → RefusedWithNoSlot bytes number offset
+refused-first bytes number offset is m m′ ws none h =
+    let refusal = subst (λ d. SearchOf d m ws m′) is h in
+    (refusal .answer, refusal .untouched)
+
+-- of each number one, by its row in 01's list or beyond it
+module _ (bytes : List ℕ) (number offset : ℕ) (l : List Case) (holds : All CaseHolds l) where
+  by-row : (i : ℕ) → getElem? l i ≡ some (case 640 bytes (refuses number offset)) → RefusedWithNoSlot bytes number offset
+  by-row i e =
+      refused-first bytes number offset
+      (refusal-meant 640 number offset (decode bytes) (all-nth CaseHolds l holds i (case 640 bytes (refuses number offset)) e))
+
+pub seven-is-last :
+    RefusedWithNoSlot [] 1 0
+    × RefusedWithNoSlot (0x00 ∷ 0x01 ∷ 0x02 ∷ []) 2 2
+    × RefusedWithNoSlot (set p1 5 0x05) 3 5
+    × RefusedWithNoSlot (set p1 10 0x0A) 4 10
+    × RefusedWithNoSlot (set p1 27 0x02) 5 27
+    × RefusedWithNoSlot (0x00 ∷ 0x01 ∷ 0x01 ∷ []) 6 3
+unfolding table pins
+seven-is-last = (
+  by-row [] 1 0 table worked 16 refl,
+  by-row (0x00 ∷ 0x01 ∷ 0x02 ∷ []) 2 2 table worked 17 refl,
+  by-row (set p1 5 0x05) 3 5 pins pinned 7 refl,
+  by-row (set p1 10 0x0A) 4 10 table worked 19 refl,
+  by-row (set p1 27 0x02) 5 27 pins pinned 8 refl,
+  by-row (0x00 ∷ 0x01 ∷ 0x01 ∷ []) 6 3 table worked 18 refl,
+)
