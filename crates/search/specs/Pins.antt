@@ -1,18 +1,14 @@
 -- Worked values of N, and of refusal 7: 01, "Search" and "Refusal numbers and their order".
 use mathlib.Core.Path.{_≡_, refl, subst}
-use mathlib.Core.Bool.{Bool}
 use mathlib.Core.List.{List, [], _∷_}
 use mathlib.Core.Option.{some}
-use Prim.Native.Nat.{ℕ, _/_, min}
-use lib.Dec.{T, eqb, eqb→eq}
+use Prim.Native.Nat.{ℕ}
 use lib.ListN.{length, set, getElem?}
 use Rattle.reach.specs.Lists.{All}
 use Rattle.reach.specs.ListLaws.{all-nth}
-use Rattle.rules.specs.Limits.{slot-size, most-slots}
+use Rattle.rules.specs.Limits.{slot-size}
 use Rattle.rules.specs.Slot.{slot-bytes}
 use Rattle.rules.specs.Machine.{machine}
-use Rattle.rules.specs.Goal.{every}
-use Rattle.rules.specs.Tests.{both}
 use Rattle.rules.specs.File.{refused, decode, held-job}
 use Rattle.rules.specs.Jobs.{p1}
 use Rattle.rules.specs.Claims.{Case, case, CaseHolds, search-reaches, refuses, reaches-accepted, refusal-meant}
@@ -55,20 +51,10 @@ rooms =
     ∷ room 960 9 0 0
     ∷ []
 
-room-test : Room → Bool
-room-test r = eqb (min (r .table / slot-size) (min (r .links) (min (r .schedule) most-slots))) (r .slots)
-
-rooms-right : (l : List Room) → T (every room-test l) → All HasSlots l
-unfolding every room-test slots-lent
-rooms-right [] t = tt
-rooms-right (r ∷ l) t =
-    let p = both (room-test r) (every room-test l) t in
-    let counted = eqb→eq (min (r .table / slot-size) (min (r .links) (min (r .schedule) most-slots))) (r .slots) (p .0) in
-    (λ m t l s. rw (t, l, s) counted, rooms-right l (p .1))
-
 pub rooms-are : All HasSlots rooms
-unfolding every room-test rooms
-rooms-are = rooms-right rooms tt
+unfolding rooms slots-lent
+rooms-are =
+    (λ m t l s. rw (t, l, s) refl, (λ m t l s. rw (t, l, s) refl, (λ m t l s. rw (t, l, s) refl, (λ m t l s. rw (t, l, s) refl, (λ m t l s. rw (t, l, s) refl, (λ m t l s. rw (t, l, s) refl, (λ m t l s. rw (t, l, s) refl, (λ m t l s. rw (t, l, s) refl, (λ m t l s. rw (t, l, s) refl, tt)))))))))
 
 -- what a search must answer where no slot is lent: its number and offset, and nothing is written
 abbrev pub RefusedWithNoSlot : List ℕ → (number offset : ℕ) → Type 0
