@@ -6,7 +6,8 @@
  * What is written (table, links, schedule of a search, answer) overlaps no other buffer of the call. What is only read may overlap.
  * Nothing is kept between calls and nothing is allocated, so threads may call at the same time on buffers of their own.
  *
- * answer is never NULL; its four words are set by every call. A refusal is 0, number, offset, 0, and then no other buffer was written.
+ * answer is never NULL: it points to four uint64_t, 32 bytes in a row, aligned for uint64_t (to 8 bytes on x86-64), and every call sets
+ * all four. A refusal is 0, number, offset, 0, and then no other buffer was written.
  * The numbers, with the offset in the job, counted from 0 (docs/JOBS.md has the fields):
  *   1  fewer than 3 bytes, more than 597, or length wrong: 0
  *   2  version not 1: 2
