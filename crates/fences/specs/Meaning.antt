@@ -22,6 +22,10 @@ words (Refused number offset) = refusal-words number offset
 words Fenced = checked-words rules.fenced
 words (Open t s l) = checked-words (rules.open-at t s l)
 
+-- worked values of them
+pub words-are : (words (Refused 4 10) ≡ 0 ∷ 4 ∷ 10 ∷ 0 ∷ []) × (words Fenced ≡ 1 ∷ 0 ∷ 0 ∷ 0 ∷ []) × (words (Open 3 0 1) ≡ 2 ∷ 3 ∷ 0 ∷ 1 ∷ [])
+words-are = (refl, refl, refl)
+
 -- "The answer is FENCED, or OPEN with the least (thread, store, load)." It is of the threads alone.
 pub record FenceFor (threads : List (List Instr)) (ws : List ℕ) : Type 0 where
   pub checked : rules.Checked

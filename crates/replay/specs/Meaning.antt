@@ -26,6 +26,14 @@ words Reaches = replayed-words reach.reaches
 words FallsShort = replayed-words reach.falls-short
 words (Stuck i) = replayed-words (reach.stuck i)
 
+-- worked values of them
+pub words-are :
+    (words (Refused 4 10) ≡ 0 ∷ 4 ∷ 10 ∷ 0 ∷ [])
+    × (words Reaches ≡ 1 ∷ 0 ∷ 0 ∷ 0 ∷ [])
+    × (words FallsShort ≡ 2 ∷ 0 ∷ 0 ∷ 0 ∷ [])
+    × (words (Stuck 1) ≡ 3 ∷ 1 ∷ 0 ∷ 0 ∷ [])
+words-are = (refl, refl, refl, refl)
+
 -- "stuck at i", else "reaches" or "falls short" by the state at the end
 pub record ReplayFor (j : Job) (schedule : List ℕ) (ws : List ℕ) : Type 0 where
   pub replayed : reach.Replayed

@@ -17,6 +17,8 @@ use Rattle.reach.specs.Replay.{Replayed, reaches, falls-short, stuck, ReplaysTo
 use Rattle.reach.specs.ReplayLaws.{replay-means}
 use Rattle.rules.specs.State.{State}
 use Rattle.rules.specs.Job.{Job, start}
+use Rattle.rules.specs.Step.{enabled}
+use Rattle.rules.specs.Slot.{slot-bytes}
 use Rattle.rules.specs.Goal.{every, goal}
 use Rattle.rules.specs.File.{Decoded, accepted, refused, decode, held-job}
 use Rattle.rules.specs.Tests.{both, three}
@@ -25,7 +27,8 @@ use Rattle.rules.specs.Same.{same-list, same-list-equal, same-state, sam
 use Rattle.rules.specs.Fences.{Checked, fenced, open-at, ChecksTo}
 use Rattle.rules.specs.FenceCheck.{fence-check, fence-check-means}
 
--- what a row says of a job: of its search, of the slots and links that a search then holds, of its fence check, of a replay; or its refusal
+-- what a row says of a job: of its search, of the slots and links that a search then holds, of its fence check, of a replay, of the state
+-- after a schedule (its slot, the steps that may be taken there); or its refusal
 pub data Claim : Type 0 where
   search-reaches : (states : ℕ) (schedule : List ℕ) → Claim
   search-never : (states : ℕ) → Claim
@@ -34,6 +37,8 @@ pub data Claim : Type 0 where
   links-are : (links : List ℕ) → Claim
   fences-say : Checked → Claim
   replay-says : (schedule : List ℕ) → Replayed → Claim
+  slot-after : (schedule bytes : List ℕ) → Claim
+  enabled-after : (schedule : List ℕ) (mask : ℕ) → Claim
   refuses : (number offset : ℕ) → Claim
 
 pub record Case : Type 0 where
@@ -54,6 +59,12 @@ InTurn j [] (x ∷ l) = ⊥
 InTurn j (w ∷ ws) [] = ⊥
 InTurn j (w ∷ ws) (x ∷ l) = LeadsTo (machine j) w x × InTurn j ws l
 
+-- the schedule leads to a state of which P holds
+pub record After (j : Job) (w : List ℕ) (P : State → Type 0) : Type 0 where
+  pub state : State
+  pub leads : LeadsTo (machine j) w state
+  pub holds : P state
+
 module _ (j : Job) (N : ℕ) where
   abbrev pub Never : Type 0
   Never = (w : List ℕ) (x : State) → LeadsTo (machine j) w x → ¬ (T (goal j x))
@@ -70,6 +81,8 @@ module _ (j : Job) (N : ℕ) where
   Says (links-are l) = Outcomes (λ o. o .links ≡ l)
   Says (fences-say a) = ChecksTo (j .threads) a
   Says (replay-says w a) = ReplaysTo (machine j) w a
+  Says (slot-after w bytes) = After j w (λ x. slot-bytes x ≡ bytes)
+  Says (enabled-after w mask) = After j w (λ x. enabled j x ≡ mask)
   Says (refuses number offset) = ⊥
 
 -- a refused job has no claim but its refusal
@@ -124,6 +137,10 @@ in-turn-test j [] (x ∷ l) = false
 in-turn-test j (w ∷ ws) [] = false
 in-turn-test j (w ∷ ws) (x ∷ l) = same-end (run (machine j) w (start j)) x && in-turn-test j ws l
 
+unfoldable pub after-test : Option State → (State → Bool) → Bool
+after-test none test = false
+after-test (some x) test = test x
+
 unfoldable pub claim-test : Job → ℕ → Claim → Bool
 claim-test j N (search-reaches n w) = leb 1 N && answer-reaches (length w) n (find (searchable j) N .answer) && same-list eqb (find (searchable j) N .schedule) w
 claim-test j N (search-never n) = leb 1 N && answer-never n (find (searchable j) N .answer)
@@ -132,6 +149,8 @@ claim-test j N (slots-follow ws) = leb 1 N && in-turn-test j ws (find (searchabl
 claim-test j N (links-are l) = leb 1 N && same-list eqb (find (searchable j) N .links) l
 claim-test j N (fences-say a) = same-fenced (fence-check (j .threads)) a
 claim-test j N (replay-says w a) = same-replayed (replay (machine j) w) a
+claim-test j N (slot-after w bytes) = after-test (run (machine j) w (start j)) (λ x. same-list eqb (slot-bytes x) bytes)
+claim-test j N (enabled-after w mask) = after-test (run (machine j) w (start j)) (λ x. eqb (enabled j x) mask)
 claim-test j N (refuses number offset) = false
 
 unfoldable pub refusal-test : (number offset : ℕ) → Claim → Bool
@@ -142,6 +161,8 @@ refusal-test number offset (slots-follow ws) = false
 refusal-test number offset (links-are l) = false
 refusal-test number offset (fences-say a) = false
 refusal-test number offset (replay-says w a) = false
+refusal-test number offset (slot-after w bytes) = false
+refusal-test number offset (enabled-after w mask) = false
 refusal-test number offset (refuses k at) = eqb k number && eqb at offset
 
 unfoldable pub decoded-test : ℕ → Claim → Decoded → Bool
@@ -220,6 +241,13 @@ module _ (j : Job) (N : ℕ) where
       let p = both (same-end (run (machine j) w (start j)) x) (in-turn-test j ws l) t in
       (same-end-equal (run (machine j) w (start j)) x (p .0), in-turn-right ws l (p .1))
 
+  after-right :
+      (w : List ℕ) (P : State → Type 0) (test : State → Bool) → ((x : State) → T (test x) → P x) →
+      (y : Option State) → run (machine j) w (start j) ≡ y → T (after-test y test) → After j w P
+  unfolding after-test
+  after-right w P test right none e t = absurd t
+  after-right w P test right (some x) e t = record { state = x; leads = e; holds = right x t }
+
   same-fenced-equal : (a b : Checked) → T (same-fenced a b) → a ≡ b
   unfolding same-fenced
   same-fenced-equal fenced fenced t = refl
@@ -265,6 +293,11 @@ module _ (j : Job) (N : ℕ) where
   claim-right (fences-say a) t = subst (ChecksTo (j .threads)) (same-fenced-equal (fence-check (j .threads)) a t) (fence-check-means (j .threads))
   claim-right (replay-says w a) t =
       subst (ReplaysTo (machine j) w) (same-replayed-equal (replay (machine j) w) a t) (replay-means (machine j) w)
+  claim-right (slot-after w bytes) t =
+      after-right w (λ x. slot-bytes x ≡ bytes) (λ x. same-list eqb (slot-bytes x) bytes)
+      (λ x. same-list-equal eqb eqb→eq (slot-bytes x) bytes) (run (machine j) w (start j)) refl t
+  claim-right (enabled-after w mask) t =
+      after-right w (λ x. enabled j x ≡ mask) (λ x. eqb (enabled j x) mask) (λ x. eqb→eq (enabled j x) mask) (run (machine j) w (start j)) refl t
   claim-right (refuses number offset) t = absurd t
 
 refusal-right : (number offset : ℕ) (m : Claim) → T (refusal-test number offset m) → m ≡ refuses number offset
@@ -276,6 +309,8 @@ refusal-right number offset (slots-follow ws) t = absurd t
 refusal-right number offset (links-are l) t = absurd t
 refusal-right number offset (fences-say a) t = absurd t
 refusal-right number offset (replay-says w a) t = absurd t
+refusal-right number offset (slot-after w bytes) t = absurd t
+refusal-right number offset (enabled-after w mask) t = absurd t
 refusal-right number offset (refuses k at) t =
     let p = both (eqb k number) (eqb at offset) t in
     let x = eqb→eq k number (p .0) in
@@ -304,6 +339,8 @@ as-decoded (slots-follow ws) = refused 0 0
 as-decoded (links-are l) = refused 0 0
 as-decoded (fences-say a) = refused 0 0
 as-decoded (replay-says w a) = refused 0 0
+as-decoded (slot-after w bytes) = refused 0 0
+as-decoded (enabled-after w mask) = refused 0 0
 as-decoded (refuses number offset) = refused number offset
 
 pub refusal-meant : (N number offset : ℕ) (d : Decoded) → Meant N (refuses number offset) d → d ≡ refused number offset
@@ -320,6 +357,8 @@ of-a-job (slots-follow ws) = true
 of-a-job (links-are l) = true
 of-a-job (fences-say a) = true
 of-a-job (replay-says w a) = true
+of-a-job (slot-after w bytes) = true
+of-a-job (enabled-after w mask) = true
 of-a-job (refuses number offset) = false
 
 module _ (N : ℕ) (c : Claim) where

@@ -4,24 +4,16 @@ use mathlib.Core.Path.{_≡_, refl}
 use mathlib.Core.List.{List, [], _∷_, _++_}
 use Prim.Native.Nat.{ℕ, _+_, _^_}
 use lib.ListN.{set, take, replicate}
-use Rattle.reach.specs.Replay.{reaches, stuck}
+use Rattle.reach.specs.Replay.{reaches, falls-short, stuck}
 use Rattle.rules.specs.Limits.{longest-file, slot-size, step-bound, most-slots}
 use Rattle.rules.specs.Slot.{pair-bytes, buffer-bytes, buffers-bytes, slot-bytes}
-use Rattle.rules.specs.State.{State, place, register, variable, buffer, with-place, with-register, with-variable, with-buffer}
-use Rattle.rules.specs.Job.{Job, start}
-use Rattle.rules.specs.Kinds.{control-of, wait-of}
-use Rattle.rules.specs.Step.{newest, by-variable, oldest-to, without-oldest-to, is-empty, has-room, free, may-execute, is-pending-to}
-use Rattle.rules.specs.Step.{is-oldest-to, may-flush, carried, stored, changed, place-after, executed, flushed, instruction-at}
-use Rattle.rules.specs.Step.{flush-thread, flush-variable, may, after-execute, after, next, enabled-below, enabled}
-use Rattle.rules.specs.File.{read-on, _>>=_, done, times, judged, byte, item, field, model-of, in-range, capacity-of, register-ok, zero-ok}
-use Rattle.rules.specs.File.{instruction-of, instruction, thread, flag-of, clause-of, clause, ended, fields, length-ok}
-use Rattle.rules.specs.File.{Decoded, accepted, refused, decoded, decode}
-use Rattle.rules.specs.Same.{same-list, same-pending, same-state}
+use Rattle.rules.specs.State.{State, register}
 use Rattle.rules.specs.Fences.{fenced, open-at}
-use Rattle.rules.specs.Jobs.{p1, p2, p4, p6, p9, p9-sc, p9-sc-drained, p2-drained, no-instruction, waits-apart, three-to-one, own-newest, fence-waits, exchange, jump-over, either-order, oldest-first, stored-register}
+use Rattle.rules.specs.Jobs.{p1, p2, p4, p5, p6, p9, p10, p9-sc, p9-sc-drained, p2-drained, no-instruction, waits-apart, three-to-one, own-newest, fence-waits, exchange, jump-over, either-order, oldest-first, stored-register}
 use Rattle.rules.specs.Jobs.{exchange-between, ends-and-moves, back-around, past-a-load, next-of-two, over-a-fence}
 use Rattle.rules.specs.Jobs.{in-memory, other-registers, widest, thirty-two, fullest, too-long, cut, cut-unknown, left-over}
-use Rattle.rules.specs.Claims.{search-reaches, search-never, search-unknown, slots-follow, links-are, fences-say, replay-says, refuses, Case, case}
+use Rattle.rules.specs.Jobs.{two-lengths, lengths-turned, nine-stores, behind-a-jump, two-stores-open, two-threads-open, last-thread-open, last-of-all, third-drains, highest-values, round-to-zero}
+use Rattle.rules.specs.Claims.{search-reaches, search-never, search-unknown, slots-follow, links-are, fences-say, replay-says, slot-after, enabled-after, refuses, Case, case}
 
 -- P1's states up to its goal, in the order of slots, each by its first shortest schedule
 unfoldable pub p1-schedules : List (List ℕ)
@@ -65,7 +57,7 @@ p1-links =
 -- slots, job, and what it pins
 unfoldable pub pins : List Case
 pins =
-    -- The verdict and refusal 7 go by these nine, and name them by their places.
+    -- The verdict and refusal 7 go by these twelve, and name them by their places.
     -- SC and FENCED with flag 0: what a verdict goes by
     case 640 p9-sc (search-never 22)
     -- the same: the fence check
@@ -80,6 +72,12 @@ pins =
     ∷ case 640 p2-drained (fences-say (open-at 0 0 1))
     -- P9 with one slot less than it has states: unknown, though it is FENCED and no goal can be reached
     ∷ case 30 p9 search-unknown
+    -- PSO, OPEN, flag 0: P4 under PSO
+    ∷ case 640 (set p4 3 0x02) (search-never 5)
+    -- TSO, OPEN, flag 1: P4 with flag 1
+    ∷ case 640 (set p4 17 0x01) (search-never 5)
+    -- SC, FENCED, flag 1, with one slot less than it has states: unknown
+    ∷ case 21 p9-sc-drained search-unknown
     -- T to 4
     ∷ case 640 (set p1 5 0x05) (refuses 3 5)
     -- flag 2 is none
@@ -95,10 +93,18 @@ pins =
     ∷ case 640 waits-apart (replay-says (0x00 ∷ 0x00 ∷ 0x00 ∷ 0x00 ∷ 0x05 ∷ 0x00 ∷ []) (stuck 5))
     -- C counts stores, not variables
     ∷ case 640 three-to-one (replay-says (0x00 ∷ 0x00 ∷ 0x00 ∷ []) (stuck 2))
+    -- TSO: the ninth store waits at C 8, and none before it
+    ∷ case 640 nine-stores (replay-says (0x00 ∷ 0x00 ∷ 0x00 ∷ 0x00 ∷ 0x00 ∷ 0x00 ∷ 0x00 ∷ 0x00 ∷ 0x00 ∷ []) (stuck 8))
+    -- PSO likewise
+    ∷ case 640 (set nine-stores 3 0x02) (replay-says (0x00 ∷ 0x00 ∷ 0x00 ∷ 0x00 ∷ 0x00 ∷ 0x00 ∷ 0x00 ∷ 0x00 ∷ 0x00 ∷ []) (stuck 8))
     -- a FENCE waits, and the flush is a step of its own
     ∷ case 640 fence-waits (search-reaches 4 (0x00 ∷ 0x04 ∷ 0x00 ∷ []))
-    -- XCHG waits, and both sides change
+    -- XCHG waits, with C 1, and both sides change
     ∷ case 640 exchange (search-reaches 5 (0x00 ∷ 0x00 ∷ 0x04 ∷ 0x00 ∷ []))
+    -- XCHG waits for an empty buffer, not for room
+    ∷ case 640 (set exchange 4 0x02) (search-reaches 5 (0x00 ∷ 0x00 ∷ 0x04 ∷ 0x00 ∷ []))
+    -- a FENCE waits for its own buffer alone
+    ∷ case 640 p9 (replay-says (0x00 ∷ 0x01 ∷ 0x04 ∷ 0x00 ∷ []) falls-short)
     -- JEQ goes to p where r = k
     ∷ case 640 jump-over (search-reaches 3 (0x00 ∷ 0x00 ∷ []))
     -- PSO: equal queues are one state, in whatever order the stores were made
@@ -113,7 +119,27 @@ pins =
     ∷ case 640 other-registers (search-reaches 7 (0x00 ∷ 0x00 ∷ 0x00 ∷ 0x00 ∷ 0x00 ∷ 0x00 ∷ []))
     -- JEQ goes to its p, not to the next place but one
     ∷ case 640 (set other-registers 28 0x07) (search-never 6)
-    -- the slot order, with all states counted
+    -- ADD is mod 256, not mod a smaller power of two
+    ∷ case 640 (set (set p5 16 0xFF) 26 0xFE) (search-reaches 3 (0x00 ∷ 0x00 ∷ []))
+    -- thread 3, its register 3, the last variables, values to 255; JEQ tests for equality; step 35
+    ∷ case 640 last-of-all (search-reaches 8 (0x03 ∷ 0x03 ∷ 0x03 ∷ 0x03 ∷ 0x03 ∷ 0x03 ∷ 0x23 ∷ []))
+    -- initial values, constants and clauses to 255
+    ∷ case 640 highest-values (search-reaches 3 (0x00 ∷ 0x00 ∷ []))
+    -- JEQ to 0, not taken; registers 1 and 3; JMP passed over
+    ∷ case 640 round-to-zero (search-reaches 9 (0x00 ∷ 0x00 ∷ 0x00 ∷ 0x00 ∷ 0x00 ∷ 0x00 ∷ 0x00 ∷ 0x00 ∷ []))
+    -- the flag asks for every buffer: thread 2's
+    ∷ case 640 third-drains (search-reaches 3 (0x02 ∷ 0x14 ∷ []))
+    -- replay falls short by the state at the end
+    ∷ case 640 p1 (replay-says (0x00 ∷ 0x00 ∷ 0x01 ∷ []) falls-short)
+    -- not by a goal on the way; "at place p" is not "at p or behind it"
+    ∷ case 640 fullest (replay-says (0x00 ∷ []) falls-short)
+    -- the first step that is stuck counts
+    ∷ case 640 p10 (replay-says (0x00 ∷ 0x00 ∷ 0x00 ∷ []) (stuck 1))
+    -- no number above 35 is a step where there is something to flush
+    ∷ case 640 p10 (replay-says (0x00 ∷ 0x24 ∷ []) (stuck 1))
+    -- an ended thread executes nothing
+    ∷ case 640 p10 (replay-says (0x00 ∷ 0x04 ∷ 0x00 ∷ 0x00 ∷ []) (stuck 3))
+    -- the slot order: the R(d) counted states of a goal that can be reached
     ∷ case 640 p1 (slots-follow p1-schedules)
     -- "64 times the slot of the state before the last step of that schedule, plus that step"; link 0
     ∷ case 640 p1 (links-are p1-links)
@@ -123,24 +149,64 @@ pins =
     ∷ case 5 p1 (links-are (take 5 p1-links))
     -- no goal at the nearer distances: the slots of an unreachable goal hold every state
     ∷ case 640 p4 (slots-follow ([] ∷ (0x00 ∷ []) ∷ (0x00 ∷ 0x00 ∷ []) ∷ (0x00 ∷ 0x04 ∷ []) ∷ (0x00 ∷ 0x00 ∷ 0x04 ∷ []) ∷ []))
+    -- unreachable with as many slots as states
+    ∷ case 31 p9 (search-never 31)
+    -- the same of P4
+    ∷ case 5 p4 (search-never 5)
+    -- and unknown with one less
+    ∷ case 4 p4 search-unknown
+    -- "bit s is set when step s may be taken": P1 at its start, steps 0 and 1
+    ∷ case 640 p1 (enabled-after [] (2 ^ 0 + 2 ^ 1))
+    -- after thread 0's store its flush too, step 4
+    ∷ case 640 p1 (enabled-after (0x00 ∷ []) (2 ^ 0 + 2 ^ 1 + 2 ^ 4))
+    -- the last of all steps
+    ∷ case 640 last-of-all (enabled-after (0x03 ∷ 0x03 ∷ 0x03 ∷ 0x03 ∷ 0x03 ∷ 0x03 ∷ []) (2 ^ 35))
+    -- the slot of the start: what a job does not use is 0
+    ∷ case 640 p1 (slot-after [] (replicate 96 0))
+    -- initial values stand from byte 20 on
+    ∷ case 640 widest (slot-after [] (replicate 20 0 ++ (1 ∷ 2 ∷ 3 ∷ 4 ∷ 5 ∷ 6 ∷ 7 ∷ 8 ∷ []) ++ replicate 68 0))
+    -- thread 0's place, and its buffer from byte 28 on: count, variable, value
+    ∷ case 640 p1 (slot-after (0x00 ∷ []) ((1 ∷ []) ++ replicate 27 0 ++ (1 ∷ 0 ∷ 1 ∷ []) ++ replicate 65 0))
+    -- thread 1's, 17 bytes on
+    ∷ case 640 p1 (slot-after (0x01 ∷ []) ((0 ∷ 1 ∷ []) ++ replicate 43 0 ++ (1 ∷ 1 ∷ 1 ∷ []) ++ replicate 48 0))
+    -- TSO: pairs oldest first
+    ∷ case 640 waits-apart (slot-after (0x00 ∷ 0x00 ∷ []) ((2 ∷ []) ++ replicate 27 0 ++ (2 ∷ 1 ∷ 1 ∷ 0 ∷ 1 ∷ []) ++ replicate 63 0))
+    -- PSO: pairs by variable number
+    ∷ case 640 (set waits-apart 3 0x02) (slot-after (0x00 ∷ 0x00 ∷ []) ((2 ∷ []) ++ replicate 27 0 ++ (2 ∷ 0 ∷ 1 ∷ 1 ∷ 1 ∷ []) ++ replicate 63 0))
     -- fence check: XCHG between is a fence
     ∷ case 640 exchange-between (fences-say fenced)
     -- each operation that is no store, no load, no move past a fence
     ∷ case 640 ends-and-moves (fences-say fenced)
     -- a walk over each operation that is no fence, and back by a jump
     ∷ case 640 back-around (fences-say (open-at 0 1 0))
-    -- a walk goes on from a load, up to a fence; the least load
+    -- the move on from a load is to the next place: the FENCE there ends the walk, so load 0 is not met
     ∷ case 640 past-a-load (fences-say (open-at 0 1 2))
     -- JEQ goes on to the next place too
     ∷ case 640 next-of-two (fences-say (open-at 0 0 2))
     -- JMP goes to its place, not on
     ∷ case 640 over-a-fence (fences-say (open-at 0 0 3))
+    -- every place counts, run or not
+    ∷ case 640 behind-a-jump (fences-say (open-at 0 1 2))
+    -- the least store comes before the least load
+    ∷ case 640 two-stores-open (fences-say (open-at 0 2 3))
+    -- the least thread before the least store
+    ∷ case 640 two-threads-open (fences-say (open-at 0 1 2))
+    -- every thread is looked at; STORE is a store; PSO too
+    ∷ case 640 last-thread-open (fences-say (open-at 3 0 1))
+    -- store and load of one variable are a pair too
+    ∷ case 640 p4 (fences-say (open-at 0 0 1))
     -- T 4, V 8 and K 16 are accepted; each thread has its own step
     ∷ case 640 widest (search-reaches 16 (0x00 ∷ 0x01 ∷ 0x02 ∷ 0x03 ∷ []))
-    -- n 0 is accepted: a thread of no instructions has ended at place 0
+    -- n 0 is accepted
     ∷ case 640 no-instruction (search-reaches 1 [])
     -- n 32 is accepted, and a clause of place 32
     ∷ case 640 thirty-two (search-reaches 33 (replicate 32 0x00))
+    -- a clause of kind 1 asks for the n of its own thread
+    ∷ case 640 two-lengths (search-reaches 5 (0x01 ∷ 0x01 ∷ []))
+    -- not of another that is longer
+    ∷ case 640 (set two-lengths 25 0x00) (refuses 5 24)
+    -- not of the first
+    ∷ case 640 lengths-turned (refuses 5 24)
     -- 597 bytes are accepted
     ∷ case 640 fullest (replay-says [] reaches)
     -- TSO with C 8 is accepted
@@ -151,18 +217,34 @@ pins =
     ∷ case 640 (0x00 ∷ 0x00 ∷ []) (refuses 1 0)
     -- 598 bytes are too many
     ∷ case 640 too-long (refuses 1 0)
-    -- the low byte of the length
+    -- a length that is one too great
     ∷ case 640 (set p1 1 0x2C) (refuses 1 0)
-    -- the high byte of the length
+    -- a length that is one too small
+    ∷ case 640 (set p1 1 0x2A) (refuses 1 0)
+    -- a length whose high byte is too great
     ∷ case 640 (set p1 0 0x01) (refuses 1 0)
+    -- 1 is judged before 2
+    ∷ case 640 (set (set p1 1 0x2C) 2 0x02) (refuses 1 0)
     -- version 2 is none
     ∷ case 640 (set p1 2 0x02) (refuses 2 2)
     -- version 0 is none
     ∷ case 640 (set p1 2 0x00) (refuses 2 2)
+    -- version 3 is none
+    ∷ case 640 (set p1 2 0x03) (refuses 2 2)
+    -- version 255 is none
+    ∷ case 640 (set p1 2 0xFF) (refuses 2 2)
     -- model 3 is none
     ∷ case 640 (set p1 3 0x03) (refuses 3 3)
+    -- model 17 is none
+    ∷ case 640 (set p1 3 0x11) (refuses 3 3)
+    -- model 255 is none
+    ∷ case 640 (set p1 3 0xFF) (refuses 3 3)
+    -- the model is judged before C
+    ∷ case 640 (set (set p1 3 0x03) 4 0x09) (refuses 3 3)
     -- SC: C must be 0
     ∷ case 640 (set p2 4 0x01) (refuses 3 4)
+    -- SC: C is not 2 either
+    ∷ case 640 (set p2 4 0x02) (refuses 3 4)
     -- TSO: C from 1
     ∷ case 640 (set p1 4 0x00) (refuses 3 4)
     -- TSO: C to 8
@@ -173,16 +255,28 @@ pins =
     ∷ case 640 (set p6 4 0x09) (refuses 3 4)
     -- T from 1
     ∷ case 640 (set p1 5 0x00) (refuses 3 5)
+    -- T is judged before V
+    ∷ case 640 (set (set p1 5 0x05) 6 0x09) (refuses 3 5)
     -- V from 1
     ∷ case 640 (set p1 6 0x00) (refuses 3 6)
     -- V to 8
     ∷ case 640 (set p1 6 0x09) (refuses 3 6)
     -- n to 32
     ∷ case 640 (set thirty-two 8 0x21) (refuses 4 8)
-    -- operation 0 is none
+    -- operation 0, with an operand that is not 0, is none
     ∷ case 640 (set p1 10 0x00) (refuses 4 10)
-    -- operation 255 is none
+    -- operation 255 likewise
     ∷ case 640 (set p1 10 0xFF) (refuses 4 10)
+    -- operation 0 with three zero bytes is none
+    ∷ case 640 (set p9 14 0x00) (refuses 4 14)
+    -- operation 10 with three zero bytes is none
+    ∷ case 640 (set p9 14 0x0A) (refuses 4 14)
+    -- operation 11 with three zero bytes is none
+    ∷ case 640 (set p9 14 0x0B) (refuses 4 14)
+    -- operation 22 with three zero bytes is none
+    ∷ case 640 (set p9 14 0x16) (refuses 4 14)
+    -- operation 255 with three zero bytes is none
+    ∷ case 640 (set p9 14 0xFF) (refuses 4 14)
     -- SET: r to 3
     ∷ case 640 (set other-registers 11 0x04) (refuses 4 10)
     -- SET: the zero byte
@@ -229,6 +323,10 @@ pins =
     ∷ case 640 (set p9 16 0x01) (refuses 4 14)
     -- FENCE: the third
     ∷ case 640 (set p9 17 0x01) (refuses 4 14)
+    -- a flag of 255 is none
+    ∷ case 640 (set p1 27 0xFF) (refuses 5 27)
+    -- the flag is judged before K
+    ∷ case 640 (set (set p1 27 0x02) 28 0x11) (refuses 5 27)
     -- K to 16
     ∷ case 640 (set p1 28 0x11) (refuses 5 28)
     -- clause kind 4 is none
@@ -237,11 +335,17 @@ pins =
     ∷ case 640 (set other-registers 40 0x00) (refuses 5 40)
     -- clause kind 255 is none
     ∷ case 640 (set other-registers 40 0xFF) (refuses 5 40)
+    -- clause kind 0 with three zero bytes is none
+    ∷ case 640 (set p1 37 0x00) (refuses 5 37)
+    -- clause kind 4 with three zero bytes is none
+    ∷ case 640 (set p1 37 0x04) (refuses 5 37)
+    -- clause kind 18 with three zero bytes is none
+    ∷ case 640 (set p1 37 0x12) (refuses 5 37)
     -- kind 1: t below T
-    ∷ case 640 (set other-registers 41 0x01) (refuses 5 40)
+    ∷ case 640 (set no-instruction 12 0x01) (refuses 5 11)
     -- kind 1: the zero byte
     ∷ case 640 (set other-registers 42 0x01) (refuses 5 40)
-    -- kind 1: p to the n of its thread
+    -- kind 1: p to n
     ∷ case 640 (set other-registers 43 0x08) (refuses 5 40)
     -- kind 2: t below T
     ∷ case 640 (set other-registers 45 0x01) (refuses 5 44)
@@ -255,8 +359,14 @@ pins =
     ∷ case 640 cut (refuses 6 10)
     -- is refused as such, whatever it holds
     ∷ case 640 cut-unknown (refuses 6 10)
+    -- a bad operation before an instruction cut off wins
+    ∷ case 640 (set (set (take 16 p1) 1 14) 10 0x0A) (refuses 4 10)
     -- a byte left over
     ∷ case 640 left-over (refuses 6 45)
+    -- the first of two bytes left over
+    ∷ case 640 (set (p1 ++ (0x00 ∷ 0x00 ∷ [])) 1 45) (refuses 6 45)
+    -- a bad clause before a byte left over wins
+    ∷ case 640 (set left-over 41 0x04) (refuses 5 41)
     -- V is not there
     ∷ case 640 (set (take 6 p1) 1 4) (refuses 6 6)
     -- an initial value is not there
@@ -269,31 +379,15 @@ pins =
     ∷ case 640 (set (take 28 p1) 1 26) (refuses 6 28)
     -- a clause cut off
     ∷ case 640 (set (take 43 p1) 1 41) (refuses 6 41)
+    -- a clause cut off is refused as such, whatever its kind
+    ∷ case 640 (set (set (take 43 p1) 1 41) 41 0x04) (refuses 6 41)
+    -- a bad clause before one cut off wins
+    ∷ case 640 (set (set (take 43 p1) 1 41) 29 0x04) (refuses 5 29)
     ∷ []
 
--- The numbers that 01 says outright, and a slot: P1 after its first step, thread 0's store of 1 to x pending.
-
+-- The numbers that 01 says outright.
 pub numbers-are : (longest-file ≡ 597) × (slot-size ≡ 96) × (step-bound ≡ 36) × (most-slots ≡ 65536)
 numbers-are = (refl, refl, refl, refl)
-
-unfoldable pub one-pending : State
-one-pending =
-    record {
-      places = 1 ∷ 0 ∷ 0 ∷ 0 ∷ [];
-      registers = replicate 16 0;
-      memory = replicate 8 0;
-      buffers = (record { variable = 0; value = 1 } ∷ []) ∷ [] ∷ [] ∷ [] ∷ [];
-    }
-
--- "bit s is set when step s may be taken": P1 at its start, where steps 0 and 1 may be taken, and in the state above, where thread 0's
--- store may be flushed too, step 4
-unfoldable pub mask-of : (Job → State) → Decoded → ℕ
-mask-of x (accepted j) = enabled j (x j)
-mask-of x (refused number offset) = 0
-
-pub mask-is : (mask-of start (decode p1) ≡ 2 ^ 0 + 2 ^ 1) × (mask-of (λ j. one-pending) (decode p1) ≡ 2 ^ 0 + 2 ^ 1 + 2 ^ 4)
-unfolding mask-of one-pending enabled enabled-below p1 place register variable buffer with-place with-register with-variable with-buffer same-list same-pending same-state start control-of wait-of newest by-variable oldest-to without-oldest-to is-empty has-room free may-execute is-pending-to is-oldest-to may-flush carried stored changed place-after executed flushed instruction-at flush-thread flush-variable may after-execute after next decode read-on _>>=_ done times judged byte item field model-of in-range capacity-of register-ok zero-ok instruction-of instruction thread flag-of clause-of clause ended fields length-ok decoded
-mask-is = (refl, refl)
 
 -- a state with another number in each part
 unfoldable pub each-apart : State
@@ -309,7 +403,3 @@ each-apart =
 pub parts-are : (register 1 2 each-apart ≡ 16) × (take 28 (slot-bytes each-apart) ≡ each-apart .places ++ each-apart .registers ++ each-apart .memory)
 unfolding each-apart register slot-bytes buffers-bytes buffer-bytes pair-bytes
 parts-are = (refl, refl)
-
-pub slot-is : slot-bytes one-pending ≡ (1 ∷ 0 ∷ 0 ∷ 0 ∷ []) ++ replicate 16 0 ++ replicate 8 0 ++ (1 ∷ 0 ∷ 1 ∷ []) ++ replicate 14 0 ++ replicate 51 0
-unfolding one-pending slot-bytes buffers-bytes buffer-bytes pair-bytes
-slot-is = refl

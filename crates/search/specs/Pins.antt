@@ -1,4 +1,4 @@
--- Worked values of N, and of refusal 7: 01, "Search" and "Refusal numbers and their order".
+-- Worked values of N, of refusal 7 and of the words: 01, "Search" and "Refusal numbers and their order".
 use mathlib.Core.Path.{_≡_, refl, subst}
 use mathlib.Core.List.{List, [], _∷_}
 use mathlib.Core.Option.{some}
@@ -9,13 +9,14 @@ use Rattle.reach.specs.ListLaws.{all-nth}
 use Rattle.rules.specs.Limits.{slot-size}
 use Rattle.rules.specs.Slot.{slot-bytes}
 use Rattle.rules.specs.Machine.{machine}
-use Rattle.rules.specs.File.{refused, decode, held-job}
+use Rattle.rules.specs.File.{accepted, refused, decode, job-of}
 use Rattle.rules.specs.Jobs.{p1}
 use Rattle.rules.specs.Claims.{Case, case, CaseHolds, search-reaches, refuses, reaches-accepted, refusal-meant}
 use Rattle.rules.specs.Pins.{pins}
 use Rattle.rules.specs.Worked.{table, worked, pinned}
 use Rattle.lent.specs.Meaning.{Lent, slots-lent, AnsweredWith}
-use Rattle.search.specs.Meaning.{slots-of, SearchOf, SearchPromise}
+use Rattle.search.specs.Meaning.{words, slots-of, SearchOf, SearchPromise}
+use Rattle.search.specs.declared.Answer.the-variants.{Refused, Reachable, Unreachable, Unknown}
 
 -- lent memory by its lengths: table bytes, links, schedule bytes; and the N that it makes up
 pub record Room : Type 0 where
@@ -61,15 +62,19 @@ abbrev pub RefusedWithNoSlot : List ℕ → (number offset : ℕ) → Type 0
 RefusedWithNoSlot bytes number offset =
     (m m′ : Lent) (ws : List ℕ) → slots-of m ≡ 0 → SearchPromise bytes m ws m′ → (ws ≡ 0 ∷ number ∷ offset ∷ 0 ∷ []) × (m′ ≡ m)
 
--- "7: search only: no slot, offset 0": P1
-pub no-slot-refused : RefusedWithNoSlot p1 7 0
-unfolding table
-no-slot-refused m m′ ws none h =
-    let row = case 640 p1 (search-reaches 22 (0x00 ∷ 0x00 ∷ 0x01 ∷ 0x01 ∷ [])) in
-    let is = reaches-accepted 640 22 (0x00 ∷ 0x00 ∷ 0x01 ∷ 0x01 ∷ []) (decode p1) (all-nth CaseHolds table worked 0 row refl) in
+-- "7: search only: no slot, offset 0"
+pub none-lent : (bytes : List ℕ) → decode bytes ≡ accepted (job-of bytes) → RefusedWithNoSlot bytes 7 0
+none-lent bytes is m m′ ws none h =
     let answered = subst (λ d. SearchOf d m ws m′) is h in
-    let refusal = subst (λ n. AnsweredWith (machine (held-job (decode p1))) slot-size slot-bytes n m ws m′) none answered in
+    let refusal = subst (λ n. AnsweredWith (machine (job-of bytes)) slot-size slot-bytes n m ws m′) none answered in
     (refusal .answer, refusal .untouched)
+
+-- of P1
+pub no-slot-refused : RefusedWithNoSlot p1 7 0
+unfolding table job-of
+no-slot-refused =
+    let w : List ℕ = 0x00 ∷ 0x00 ∷ 0x01 ∷ 0x01 ∷ [] in
+    none-lent p1 (reaches-accepted 640 22 w (decode p1) (all-nth CaseHolds table worked 0 (case 640 p1 (search-reaches 22 w)) refl))
 
 -- "7 last": a job that has a fault of 1 to 6 is refused by that, with no slot lent too
 refused-first : (bytes : List ℕ) (number offset : ℕ) → decode bytes ≡ refused number offset → RefusedWithNoSlot bytes number offset
@@ -95,8 +100,16 @@ unfolding table pins
 seven-is-last = (
   by-row [] 1 0 table worked 16 refl,
   by-row (0x00 ∷ 0x01 ∷ 0x02 ∷ []) 2 2 table worked 17 refl,
-  by-row (set p1 5 0x05) 3 5 pins pinned 7 refl,
+  by-row (set p1 5 0x05) 3 5 pins pinned 10 refl,
   by-row (set p1 10 0x0A) 4 10 table worked 19 refl,
-  by-row (set p1 27 0x02) 5 27 pins pinned 8 refl,
+  by-row (set p1 27 0x02) 5 27 pins pinned 11 refl,
   by-row (0x00 ∷ 0x01 ∷ 0x01 ∷ []) 6 3 table worked 18 refl,
 )
+
+-- the words of each case: its number, and its values in their order
+pub words-are :
+    (words (Refused 4 10) ≡ 0 ∷ 4 ∷ 10 ∷ 0 ∷ [])
+    × (words (Reachable 4 22) ≡ 1 ∷ 4 ∷ 22 ∷ 0 ∷ [])
+    × (words (Unreachable 13) ≡ 2 ∷ 13 ∷ 0 ∷ 0 ∷ [])
+    × (words (Unknown 640) ≡ 3 ∷ 640 ∷ 0 ∷ 0 ∷ [])
+words-are = (refl, refl, refl, refl)

@@ -5,8 +5,7 @@ use mathlib.Core.Path.{_≡_, refl, sym, _∙_, ap, subst}
 use mathlib.Core.List.{List, _++_}
 use Prim.Native.Nat.{ℕ, zero, suc, _*_, _≤_}
 use native.Mathlib.Omega.{arith}
-use lib.ListN.{length, take, drop}
-use lib.Seq.{take-at}
+use lib.ListN.{length, drop}
 use Rattle.reach.specs.Lists.{All}
 use Rattle.reach.specs.ListLaws.{all-imp}
 use Rattle.reach.specs.Meaning.{Answer, reachable, unreachable, unknown, Outcome, LeastGoal, NoGoal, Reached, AtMost, Counts, GoalSchedule, MeansAt, Brings, slots-bytes}
@@ -23,7 +22,7 @@ use Rattle.rules.specs.Machine.{machine}
 use Rattle.rules.specs.Same.{searchable}
 use Rattle.rules.specs.State.{State}
 use Rattle.rules.specs.Accepted.{job-of-accepted}
-use Rattle.rules.specs.Claims.{Claim, search-reaches, search-never, search-unknown, slots-follow, links-are, fences-say, replay-says, refuses, Case, CaseHolds, Meant, InTurn}
+use Rattle.rules.specs.Claims.{Claim, search-reaches, search-never, search-unknown, slots-follow, links-are, fences-say, replay-says, slot-after, enabled-after, refuses, Case, CaseHolds, Meant, InTurn}
 use Rattle.rules.specs.Pins.{pins}
 use Rattle.rules.specs.Worked.{table, worked, pinned}
 use Rattle.fences.specs.Meaning as fences
@@ -79,26 +78,28 @@ module _ (bytes : List ℕ) (j : Job) (is : decode bytes ≡ accepted j) (N : �
       which zero l k = absurd (omega arith)
       which (suc n) l k = k
 
--- the table begins with the bytes of the states to which the schedules lead, one slot after another
-pub record TableFollows (bytes : List ℕ) (schedules : List (List ℕ)) (lent : List ℕ) : Type 0 where
+-- the table holds the bytes of the states to which the schedules lead, one slot after another, and behind them what was lent
+pub record TableFollows (bytes : List ℕ) (schedules : List (List ℕ)) (lent written : List ℕ) : Type 0 where
   pub states : List State
   pub in-turn : InTurn (job-of bytes) schedules states
-  pub behind : List ℕ
-  pub begins : lent ≡ slots-bytes slot-bytes states ++ behind
+  pub is : written ≡ slots-bytes slot-bytes states ++ drop (slot-size * length states) lent
 
 -- the words that a claim of the list fixes, with its number of slots lent
 module _ (bytes : List ℕ) (N : ℕ) where
-  abbrev pub Searched : (List ℕ → Lent → Type 0) → Type 0
-  Searched P = (m m′ : Lent) (ws : List ℕ) → slots-of m ≡ N → SearchPromise bytes m ws m′ → P ws m′
+  abbrev pub Searched : (Lent → List ℕ → Lent → Type 0) → Type 0
+  Searched P = (m m′ : Lent) (ws : List ℕ) → slots-of m ≡ N → SearchPromise bytes m ws m′ → P m ws m′
 
   abbrev pub Fixes : Claim → Type 0
-  Fixes (search-reaches n w) = Searched (λ ws m′. (ws ≡ reachable-words (length w) n) × (take (length w) (m′ .schedule) ≡ w))
-  Fixes (search-never n) = Searched (λ ws m′. ws ≡ unreachable-words n)
-  Fixes search-unknown = Searched (λ ws m′. ws ≡ answer-words (unknown N))
-  Fixes (slots-follow schedules) = Searched (λ ws m′. TableFollows bytes schedules (m′ .table))
-  Fixes (links-are l) = Searched (λ ws m′. take (length l) (m′ .links) ≡ l)
+  Fixes (search-reaches n w) = Searched (λ m ws m′. (ws ≡ reachable-words (length w) n) × (m′ .schedule ≡ w ++ drop (length w) (m .schedule)))
+  Fixes (search-never n) = Searched (λ m ws m′. (ws ≡ unreachable-words n) × (m′ .schedule ≡ m .schedule))
+  Fixes search-unknown = Searched (λ m ws m′. (ws ≡ answer-words (unknown N)) × (m′ .schedule ≡ m .schedule))
+  Fixes (slots-follow schedules) = Searched (λ m ws m′. TableFollows bytes schedules (m .table) (m′ .table))
+  Fixes (links-are l) = Searched (λ m ws m′. m′ .links ≡ l ++ drop (length l) (m .links))
   Fixes (fences-say a) = (ws : List ℕ) → fences.FencePromise bytes ws → ws ≡ fences.checked-words a
   Fixes (replay-says w a) = (ws : List ℕ) → replay.ReplayPromise bytes w ws → ws ≡ replay.replayed-words a
+  -- of these no public promise speaks
+  Fixes (slot-after w b) = Unit {0}
+  Fixes (enabled-after w mask) = Unit {0}
   Fixes (refuses number offset) =
       ((ws : List ℕ) → fences.FencePromise bytes ws → ws ≡ refusal-words number offset)
       × ((w ws : List ℕ) → replay.ReplayPromise bytes w ws → ws ≡ refusal-words number offset)
@@ -111,19 +112,27 @@ module _ (bytes : List ℕ) (N : ℕ) where
       let o = x .outcome in
       let f = reaches-fixed (machine j) N o (length w) n w (h .0) (h .1) (h .2) (o .answer) (x .means) in (
         x .answer ∙ ap answer-words (f .0),
-        ap (λ z. take (length w) (z .schedule)) (x .buffers)
-            ∙ take-at (o .schedule) (drop (length (o .schedule)) (m .schedule)) (length w) (ap length (f .1))
-            ∙ f .1,
+        ap (λ z. z .schedule) (x .buffers) ∙ ap (λ z. z ++ drop (length z) (m .schedule)) (f .1),
       ))
   fixed-accepted some-slot j is (search-never n) h =
       λ m m′ ws slots k.
       (let x = answered bytes j is N some-slot m m′ ws slots k in
+      let o = x .outcome in
       let nowhere : NoGoal (machine j) = λ y g r. h .0 (r .way) y (r .leads) g in
-      x .answer ∙ ap answer-words (never-fixed (machine j) N (x .outcome) n nowhere (h .1) (h .2) (x .outcome .answer) (x .means)))
+      let f = never-fixed (machine j) N o n nowhere (h .1) (h .2) (o .answer) (x .means) in
+      let means : MeansAt (machine j) N (unreachable n) o = subst (λ a. MeansAt (machine j) N a o) f (x .means) in (
+        x .answer ∙ ap answer-words f,
+        ap (λ z. z .schedule) (x .buffers) ∙ ap (λ z. z ++ drop (length z) (m .schedule)) (means .none-written),
+      ))
   fixed-accepted some-slot j is search-unknown h =
       λ m m′ ws slots k.
       (let x = answered bytes j is N some-slot m m′ ws slots k in
-      x .answer ∙ ap answer-words (unknown-exactly (searchable j) N (x .outcome) (x .means) .1 h))
+      let o = x .outcome in
+      let f = unknown-exactly (searchable j) N o (x .means) .1 h in
+      let means : MeansAt (machine j) N (unknown N) o = subst (λ a. MeansAt (machine j) N a o) f (x .means) in (
+        x .answer ∙ ap answer-words f,
+        ap (λ z. z .schedule) (x .buffers) ∙ ap (λ z. z ++ drop (length z) (m .schedule)) (means .none-written),
+      ))
   fixed-accepted some-slot j is (slots-follow schedules) h =
       λ m m′ ws slots k.
       (let x = answered bytes j is N some-slot m m′ ws slots k in
@@ -131,15 +140,12 @@ module _ (bytes : List ℕ) (N : ℕ) where
       record {
         states = o .slots;
         in-turn = subst (λ z. InTurn z schedules (o .slots)) (sym (job-of-accepted bytes j is)) (h o (x .means));
-        behind = drop (slot-size * length (o .slots)) (m .table);
-        begins = ap (λ z. z .table) (x .buffers);
+        is = ap (λ z. z .table) (x .buffers);
       })
   fixed-accepted some-slot j is (links-are l) h =
       λ m m′ ws slots k.
       (let x = answered bytes j is N some-slot m m′ ws slots k in
-      let o = x .outcome in
-      let same : o .links ≡ l = h o (x .means) in
-      ap (λ z. take (length l) (z .links)) (x .buffers) ∙ take-at (o .links) (drop (length (o .links)) (m .links)) (length l) (ap length same) ∙ same)
+      ap (λ z. z .links) (x .buffers) ∙ ap (λ z. z ++ drop (length z) (m .links)) (h (x .outcome) (x .means)))
   fixed-accepted some-slot j is (fences-say a) h =
       λ ws k.
       fences.fences-once bytes ws (fences.checked-words a) k
@@ -148,6 +154,8 @@ module _ (bytes : List ℕ) (N : ℕ) where
       λ ws k.
       replay.replay-once bytes w ws (replay.replayed-words a) k
       (subst (λ d. replay.ReplayOf d w (replay.replayed-words a)) (sym is) (record { replayed = a; means = h; answer = refl }))
+  fixed-accepted some-slot j is (slot-after w b) h = tt
+  fixed-accepted some-slot j is (enabled-after w mask) h = tt
   fixed-accepted some-slot j is (refuses number offset) h = absurd h
 
   fixed-refused : (number offset : ℕ) → decode bytes ≡ refused number offset → Fixes (refuses number offset)

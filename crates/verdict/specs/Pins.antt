@@ -23,6 +23,7 @@ use Rattle.rules.specs.Pins.{pins}
 use Rattle.rules.specs.Worked.{table, worked, pinned}
 use Rattle.lent.specs.Meaning.{Lent}
 use Rattle.search.specs.Meaning as search
+use Rattle.search.specs.Pins.{none-lent}
 use Rattle.fences.specs.Meaning as fences
 use Rattle.together.specs.Answered.{reachable-words, unreachable-words}
 use Rattle.together.specs.Listed.{CaseFixed, listed, pins-listed}
@@ -65,12 +66,22 @@ verdicts =
     ∷ row 640 p2-drained hold
     -- TSO and OPEN, P4: the search has decided
     ∷ row 640 p4 release
-    -- PSO, P7: likewise
+    -- TSO and OPEN with flag 1: likewise
+    ∷ row 640 (set p4 17 0x01) release
+    -- PSO and OPEN: likewise
+    ∷ row 640 (set p4 3 0x02) release
+    -- PSO and FENCED, P7
     ∷ row 640 p7 release
     -- an operation that nobody has handled: refused
     ∷ row 640 (set p1 10 0x0A) hold
+    -- nothing was sent: refused
+    ∷ row 640 [] hold
+    -- no slot lent: refused
+    ∷ row 0 p9 hold
     -- P9 with a slot too few: unknown
     ∷ row 30 p9 hold
+    -- SC, FENCED, flag 1, with a slot too few: unknown
+    ∷ row 21 p9-sc-drained hold
     ∷ []
 
 not-true : (b : Bool) → ¬ (b ≡ true) → b ≡ false
@@ -102,8 +113,10 @@ heads-are :
     × (job-of p2-drained .model ≡ Sc)
     × (job-of p4 .model ≡ Tso)
     × (job-of p7 .model ≡ Pso)
+    × (job-of (set p4 17 0x01) .model ≡ Tso)
+    × (job-of (set p4 3 0x02) .model ≡ Pso)
 unfolding p1 p2 p4 p6 p7 p9 p9-sc p9-sc-drained p2-drained job-of held-job decode read-on _>>=_ done times judged byte item field model-of in-range capacity-of register-ok zero-ok instruction-of instruction thread flag-of clause-of clause ended fields length-ok decoded
-heads-are = (refl, refl, refl, refl, refl, refl, refl, refl, refl)
+heads-are = (refl, refl, refl, refl, refl, refl, refl, refl, refl, refl, refl)
 
 -- The ways to HOLD: an answer that is not "unreachable"; under SC flag 0, or OPEN; a refusal.
 module _ (r : Row) (says : r .says ≡ hold) where
@@ -144,7 +157,7 @@ module _ (l : List Case) (holds : All CaseHolds l) (bytes : List ℕ) (n i : ℕ
   is-never :
       All CaseFixed l →
       (m m′ : Lent) (ws : List ℕ) → search.slots-of m ≡ 640 → search.SearchPromise bytes m ws m′ → ws ≡ unreachable-words n
-  is-never fixed = all-nth CaseFixed l fixed i (case 640 bytes (search-never n)) at (omega arith)
+  is-never fixed m m′ ws slots h = all-nth CaseFixed l fixed i (case 640 bytes (search-never n)) at (omega arith) m m′ ws slots h .0
 
 -- Each row.
 
@@ -187,6 +200,20 @@ p4-released =
     never-released (row 640 p4 release) 5 refl (is-accepted table worked p4 5 6 refl) (is-never table worked p4 5 6 refl listed)
     (λ cs f sc. absurd (tso-is-not-sc (sym (heads-are .7) ∙ sc)))
 
+p4-drained-released : Judged (row 640 (set p4 17 0x01) release)
+unfolding pins
+p4-drained-released =
+    never-released (row 640 (set p4 17 0x01) release) 5 refl (is-accepted pins pinned (set p4 17 0x01) 5 8 refl)
+    (is-never pins pinned (set p4 17 0x01) 5 8 refl pins-listed)
+    (λ cs f sc. absurd (tso-is-not-sc (sym (heads-are .9) ∙ sc)))
+
+p4-pso-released : Judged (row 640 (set p4 3 0x02) release)
+unfolding pins
+p4-pso-released =
+    never-released (row 640 (set p4 3 0x02) release) 5 refl (is-accepted pins pinned (set p4 3 0x02) 5 7 refl)
+    (is-never pins pinned (set p4 3 0x02) 5 7 refl pins-listed)
+    (λ cs f sc. absurd (pso-is-not-sc (sym (heads-are .10) ∙ sc)))
+
 p7-released : Judged (row 640 p7 release)
 unfolding table
 p7-released =
@@ -199,13 +226,30 @@ refused-held =
     refused-job (row 640 (set p1 10 0x0A) hold) refl 4 10
     (refusal-meant 640 4 10 (decode (set p1 10 0x0A)) (all-nth CaseHolds table worked 19 (case 640 (set p1 10 0x0A) (refuses 4 10)) refl))
 
+empty-held : Judged (row 640 [] hold)
+unfolding table
+empty-held =
+    refused-job (row 640 [] hold) refl 1 0 (refusal-meant 640 1 0 (decode []) (all-nth CaseHolds table worked 16 (case 640 [] (refuses 1 0)) refl))
+
+no-slot-held : Judged (row 0 p9 hold)
+unfolding table
+no-slot-held =
+    found-otherwise (row 0 p9 hold) refl 0 (λ e. omega (arith, e))
+    (λ m m′ ws slots s. ap (λ z. getD z 0 0) (none-lent p9 (is-accepted table worked p9 31 12 refl) m m′ ws slots s .0))
+
 unknown-held : Judged (row 30 p9 hold)
 unfolding pins
 unknown-held =
     found-otherwise (row 30 p9 hold) refl 3 (λ e. omega (arith, e))
-    (λ m m′ ws slots s. ap (λ z. getD z 0 0) (all-nth CaseFixed pins pins-listed 6 (case 30 p9 search-unknown) refl (omega arith) m m′ ws slots s))
+    (λ m m′ ws slots s. ap (λ z. getD z 0 0) (all-nth CaseFixed pins pins-listed 6 (case 30 p9 search-unknown) refl (omega arith) m m′ ws slots s .0))
+
+sc-unknown-held : Judged (row 21 p9-sc-drained hold)
+unfolding pins
+sc-unknown-held =
+    found-otherwise (row 21 p9-sc-drained hold) refl 3 (λ e. omega (arith, e))
+    (λ m m′ ws slots s. ap (λ z. getD z 0 0) (all-nth CaseFixed pins pins-listed 9 (case 21 p9-sc-drained search-unknown) refl (omega arith) m m′ ws slots s .0))
 
 pub verdicts-are : All Judged verdicts
 unfolding verdicts
 verdicts-are =
-    (p1-held, (p2-held, (p9-released, (p9-sc-drained-released, (p9-sc-held, (p2-drained-held, (p4-released, (p7-released, (refused-held, (unknown-held, tt))))))))))
+    (p1-held, (p2-held, (p9-released, (p9-sc-drained-released, (p9-sc-held, (p2-drained-held, (p4-released, (p4-drained-released, (p4-pso-released, (p7-released, (refused-held, (empty-held, (no-slot-held, (unknown-held, (sc-unknown-held, tt)))))))))))))))
