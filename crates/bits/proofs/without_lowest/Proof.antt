@@ -1,5 +1,5 @@
 -- m & (m - 1) takes the lowest set bit off; of the empty set nothing is left.
-use mathlib.Core.Path.{_≡_, subst}
+use mathlib.Core.Path.{_≡_, sym, subst}
 use borrow.Author.Needs.{needs}
 use native.Mathlib.Omega.{arith}
 use Rattle.bits.specs.Bits.{width, without-lowest-of, WithoutLowest}
@@ -19,7 +19,7 @@ returns c =
 returns-2 : tie.Need-returns-2
 returns-2 c =
     let m = c .before .args .m in
-    rw (without-and width m (omega arith)) (without-lowest-law m (omega arith))
+    subst (WithoutLowest m) (sym (without-and width m (omega arith))) (without-lowest-law m (omega arith))
 
 pub without-lowest-spec : {M : Type 1} → statement M
 without-lowest-spec = tie.close (tie.spec sub-result returns returns-2)

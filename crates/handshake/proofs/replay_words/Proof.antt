@@ -24,10 +24,10 @@ returns : tie.Need-returns
 returns c = sym (ap words (c .before .a .given .1))
 
 returns-2 : tie.Need-returns-2
-returns-2 c = search needs
+returns-2 c = sym (ap words (c .enum-told .given .1))
 
 returns-3 : tie.Need-returns-3
-returns-3 c = search needs
+returns-3 c = sym (ap words (c .enum-told2 .given .1))
 
 returns-4 : tie.Need-returns-4
 returns-4 c = sym (ap words (c .before .a2 .given .1))

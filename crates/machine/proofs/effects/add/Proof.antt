@@ -1,7 +1,6 @@
 -- `machine::effects::add` meets its contract: the wrapping sum is the sum modulo 256.
 use borrow.Author.Needs.{needs}
 use Rattle.rules.specs.Step.{changed}
-use Rattle.state.proofs.PartLaws.{holds-as}
 use Rattle.machine.proofs.effects.add.Statement.{statement}
 use Rattle.machine.proofs.effects.add.Tie as tie
 
@@ -16,7 +15,7 @@ with-register-requires c κs = search needs
 
 returns : tie.Need-returns
 unfolding changed
-returns c = λ m. holds-as (c .with-register .ensures) (cc)
+returns c = λ m. rw (← c .before .before .register .ensures, ← c .before .wrapping-add-u8 .ensures) (c .with-register .ensures)
 
 pub add-spec : {M : Type 1} → statement M
 add-spec =

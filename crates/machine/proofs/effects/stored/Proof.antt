@@ -1,7 +1,6 @@
 -- `machine::effects::stored` meets its contract: by the three models.
 use borrow.Author.Needs.{needs}
 use Rattle.rules.specs.Step.{has-room, stored}
-use Rattle.state.proofs.PartLaws.{holds-as}
 use Rattle.machine.proofs.RoomLaws.{room-under}
 use Rattle.machine.proofs.effects.stored.Statement.{statement}
 use Rattle.machine.proofs.effects.stored.Tie as tie
@@ -44,11 +43,11 @@ returns c = rw (c .before .enum-told .given .1) (c .with-variable .ensures)
 
 returns-2 : tie.Need-returns-2
 unfolding stored
-returns-2 c = rw (c .before .before .before .enum-told2 .given .1) (holds-as (c .with-buffer .ensures) (cc))
+returns-2 c = rw (c .before .before .before .enum-told2 .given .1, ← c .before .before .buffer .ensures .held, ← c .before .with-last .ensures .held) (c .with-buffer .ensures)
 
 returns-3 : tie.Need-returns-3
 unfolding stored
-returns-3 c = rw (c .before .before .before .enum-told3 .given .1) (holds-as (c .with-buffer2 .ensures) (cc))
+returns-3 c = rw (c .before .before .before .enum-told3 .given .1, ← c .before .before .buffer2 .ensures .held, ← c .before .with-sorted .ensures .held) (c .with-buffer2 .ensures)
 
 pub stored-spec : {M : Type 1} → statement M
 stored-spec =
