@@ -198,8 +198,9 @@ fn with_goal_after(
     most_steps: usize,
     clauses: impl Fn(&mut Random, &State) -> Vec<[u8; 4]>,
 ) -> Vec<u8> {
-    let Ok(decoded) = decode(&job) else {
-        return job;
+    let decoded = match decode(&job) {
+        Ok(decoded) => decoded,
+        _ => return job,
     };
     let steps = random.between(2, most_steps);
     let (_, state) = walk(random, &decoded, steps);

@@ -142,7 +142,7 @@ fn level_ends(links: &[u32]) -> Vec<usize> {
     for (slot, link) in links.iter().enumerate() {
         let before = levels.get((link / 64) as usize);
         let level = before.map_or(0, |level| level + 1);
-        if levels.last().is_some_and(|&last| last < level) {
+        if levels.last().map_or(false, |&last| last < level) {
             ends.push(slot);
         }
         levels.push(level);

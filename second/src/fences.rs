@@ -15,7 +15,7 @@ pub struct OpenPair {
 pub fn fences(job: &[u8]) -> [u64; 4] {
     match decode(job) {
         Err(refusal) => refusal.words(),
-        Ok(job) => match open_pairs(&job).first() {
+        Ok(job) => match open_pairs(&job).iter().next() {
             None => [1, 0, 0, 0],
             Some(pair) => [2, pair.thread as u64, pair.store as u64, pair.load as u64],
         },
@@ -28,7 +28,7 @@ pub fn open_pairs(job: &Job) -> BTreeSet<OpenPair> {
     for (thread, program) in job.programs.iter().enumerate() {
         for store in (0..program.len()).filter(|&place| is_store(program[place])) {
             for load in exposed_places(program, store) {
-                if program.get(load).copied().is_some_and(is_load) {
+                if program.get(load).copied().map_or(false, is_load) {
                     pairs.insert(OpenPair {
                         thread,
                         store,
@@ -47,7 +47,7 @@ fn exposed_places(program: &[Instruction], store: usize) -> BTreeSet<usize> {
     let mut edge = places_after(program, store);
     while let Some(place) = edge.pop() {
         // A barrier may be the end of a walk, but no walk goes on through it.
-        if exposed.insert(place) && !program.get(place).copied().is_some_and(is_barrier) {
+        if exposed.insert(place) && !program.get(place).copied().map_or(false, is_barrier) {
             edge.extend(places_after(program, place));
         }
     }
@@ -56,8 +56,9 @@ fn exposed_places(program: &[Instruction], store: usize) -> BTreeSet<usize> {
 
 /// The end of a program has no place after it.
 fn places_after(program: &[Instruction], place: usize) -> Vec<usize> {
-    let Some(instruction) = program.get(place) else {
-        return vec![];
+    let instruction = match program.get(place) {
+        Some(instruction) => instruction,
+        _ => return vec![],
     };
     match *instruction {
         Instruction::Jump { target } => vec![target],

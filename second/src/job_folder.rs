@@ -113,7 +113,7 @@ fn make_job(folder: &Path, name: &str) -> Result<Option<PathBuf>, Faults> {
     let [text, job, _] = files(folder, name);
     let bytes = text_bytes(&text)?;
     // An unchanged file keeps its date.
-    if fs::read(&job).is_ok_and(|stored| stored == bytes) {
+    if fs::read(&job).map_or(false, |stored| stored == bytes) {
         return Ok(None);
     }
     match fs::write(&job, bytes) {
@@ -233,7 +233,7 @@ fn names(folder: &Path, extensions: &[&str]) -> Result<BTreeSet<String>, Faults>
     for entry in fs::read_dir(folder).map_err(unreadable)? {
         let path = entry.map_err(unreadable)?.path();
         let extension = path.extension().and_then(|extension| extension.to_str());
-        if extension.is_some_and(|extension| extensions.contains(&extension)) {
+        if extension.map_or(false, |extension| extensions.contains(&extension)) {
             names.extend(path.file_stem().map(|stem| stem.to_string_lossy().into()));
         }
     }

@@ -35,7 +35,10 @@ fn stored(name: &str) -> Vec<u8> {
 fn names() -> Vec<String> {
     let files = fs::read_dir(folder()).unwrap();
     let paths = files.map(|entry| entry.unwrap().path());
-    let jobs = paths.filter(|path| path.extension().is_some_and(|extension| extension == "job"));
+    let jobs = paths.filter(|path| {
+        path.extension()
+            .map_or(false, |extension| extension == "job")
+    });
     let mut names: Vec<String> = jobs
         .map(|path| path.file_stem().unwrap().to_string_lossy().into())
         .collect();

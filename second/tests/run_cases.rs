@@ -55,7 +55,7 @@ fn replay_cases_give_every_answer_in_the_room_there_is() {
     assert_each(&kinds, &REFUSALS, 5);
     assert!(cases.iter().all(|case| case.job.len() <= ROOM_FOR_JOB));
     let lengths: BTreeSet<usize> = cases.iter().map(|case| case.schedule.len()).collect();
-    assert_eq!(lengths.last(), Some(&replay_cases::MOST_STEPS));
+    assert_eq!(lengths.iter().next_back(), Some(&replay_cases::MOST_STEPS));
     assert!(lengths.contains(&0) && lengths.contains(&65_536));
 }
 

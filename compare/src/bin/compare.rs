@@ -3,7 +3,7 @@
 use compare::library::Library;
 use compare::one_job::Difference;
 use compare::run::{run, Plan};
-use std::io::{self, IsTerminal, Write};
+use std::io::{self, Write};
 use std::process::ExitCode;
 use std::sync::Mutex;
 use std::thread;
@@ -62,7 +62,7 @@ fn plan(arguments: &[String]) -> Result<Plan, String> {
 fn compare(plan: Plan) -> ExitCode {
     let begin = Instant::now();
     let shown = Mutex::new(begin);
-    let on_terminal = io::stderr().is_terminal();
+    let on_terminal = errors_on_terminal();
     let progress = |jobs: u64, differences: u64| {
         if on_terminal {
             show_progress(&shown, plan.jobs, jobs, differences);
@@ -104,10 +104,21 @@ fn compare(plan: Plan) -> ExitCode {
     }
 }
 
+// Of the C library that std links; std itself has the question since Rust 1.70.
+extern "C" {
+    fn isatty(file: i32) -> i32;
+}
+
+fn errors_on_terminal() -> bool {
+    // SAFETY: it takes any number, and only looks what is open there.
+    unsafe { isatty(2) != 0 }
+}
+
 /// At most twice a second, and always in the same line.
 fn show_progress(shown: &Mutex<Instant>, all: u64, jobs: u64, differences: u64) {
-    let Ok(mut last) = shown.lock() else {
-        return;
+    let mut last = match shown.lock() {
+        Ok(last) => last,
+        _ => return,
     };
     if last.elapsed() > Duration::from_millis(500) {
         *last = Instant::now();

@@ -13,8 +13,9 @@ const USAGE: &str = "use one of (each writes DIR/stdin and DIR/stdout):
 
 fn main() -> ExitCode {
     let arguments: Vec<String> = env::args().skip(1).collect();
-    let [kind, folder] = &arguments[..] else {
-        return fail(USAGE);
+    let (kind, folder) = match &arguments[..] {
+        [kind, folder] => (kind, folder),
+        _ => return fail(USAGE),
     };
     let (cases, lines) = match kind.as_str() {
         "job" => of_decoder(),

@@ -10,8 +10,9 @@ const USAGE: &str = "use one of:
 
 fn main() -> ExitCode {
     let arguments: Vec<String> = std::env::args().skip(1).collect();
-    let [command, folder] = &arguments[..] else {
-        return misused();
+    let (command, folder) = match &arguments[..] {
+        [command, folder] => (command, folder),
+        _ => return misused(),
     };
     let folder = Path::new(folder);
     let report = match command.as_str() {

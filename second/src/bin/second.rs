@@ -85,8 +85,13 @@ fn run_search(rest: &[String]) -> Result<String, String> {
 }
 
 fn run_replay(rest: &[String]) -> Result<String, String> {
-    let [job, schedule] = rest else {
-        return Err("replay takes two arguments; quote the job and the schedule each".to_string());
+    let (job, schedule) = match rest {
+        [job, schedule] => (job, schedule),
+        _ => {
+            return Err(
+                "replay takes two arguments; quote the job and the schedule each".to_string(),
+            )
+        }
     };
     Ok(words_line(second::replay(
         &from_hex(job)?,
