@@ -1,5 +1,6 @@
-# Reads the .rt files of the crates and prints a line for each function marked pub: its name, how many `requires` it has,
-# and, each behind a tab, what is wrong with its statement. A line that begins with ! says why a file could not be read.
+# Reads the .rt files of the crates and prints a line for each function marked pub: its name, how many `requires` and
+# `ghost` it has, and, each behind a tab, what is wrong with its statement. A line that begins with ! is a complaint about
+# a file: it could not be read, or has a type that would hide a &mut.
 # Comments and quoted text say nothing. What is in the braces of a clause is antt, whose words go by rules of their own.
 # It reads bytes (LC_ALL=C), so that every awk does the same.
 
@@ -8,7 +9,7 @@ FNR == 1 { text = ""; file = FILENAME }
 { text = text $0 "\n" }
 END { if (NR) read_file() }
 
-function fault(what) { print "! " file ": " what; at = size + 1 }
+function fault(what) { print "! " file ": " what ": it could not be read, so nothing is known of its functions"; at = size + 1 }
 function here(n) { return substr(text, at, n) }
 function to_line_end() { while (at <= size && here(1) != "\n") at++ }
 
@@ -36,26 +37,29 @@ function raw_text(signs,    ending, n) {
     at += n - 1 + signs
 }
 
-# The next word or sign of Rattle, as `token`: "" at the end, \" for a text, and a clause with its braces as `ensures{}`.
-function next_token(    c) {
+# Steps over spaces and comments of Rattle.
+function skip_blank() {
     for (;;) {
-        c = here(1)
-        if (c ~ /[ \t\r\n]/) at++
+        if (here(1) ~ /[ \t\r\n]/) at++
         else if (here(2) == "//") to_line_end()
         else if (here(2) == "/*") comment("/*", "*/")
-        else break
+        else return
     }
+}
+function read_word(    from) {
+    for (from = at; here(1) ~ /[A-Za-z0-9_]/;) at++
+    return substr(text, from, at - from)
+}
+
+# The next word or sign of Rattle, as `token`: "" at the end, \" for a text, and a clause with its braces as `ensures{}`.
+function next_token(    c) {
+    skip_blank()
     if (at > size) return token = ""
+    c = here(1)
     if (c ~ /[A-Za-z0-9_]/) {
-        for (token = ""; (c = here(1)) ~ /[A-Za-z0-9_]/; at++) token = token c
+        token = read_word()
         if (token ~ /^b?r$/ && match(here(99), /^#*"/)) { raw_text(RLENGTH); return token = "\"" }
-        if (token == "ghost" && match(here(999), /^[ \t\r\n]+use[ \t\r\n]/)) { # names of antt, up to a semicolon
-            while (at <= size && here(1) != ";") at++
-        } else if (token ~ /^(ghost|requires|ensures)$/ && match(here(999), /^[ \t\r\n]*[{]/)) {
-            at += RLENGTH
-            read_clause()
-            token = token "{}"
-        }
+        if (token ~ /^(ghost|requires|ensures)$/) read_antt()
         return token
     }
     token = c
@@ -67,6 +71,21 @@ function next_token(    c) {
 }
 
 # ---- Clauses
+
+# Behind ghost, requires or ensures: a clause in braces, a struct's `ghost name: {..}`, or the names of `ghost use ..;`.
+function read_antt(    from, name) {
+    from = at
+    skip_blank()
+    if (token == "ghost") name = read_word()
+    if (name == "use") {
+        for (from = at; at <= size && here(1) != ";";) at++
+        if (substr(text, from, at - from) ~ /"|--|[{]-|\/[\/*]/) fault("a ghost use has a comment or a quote in it")
+        return
+    }
+    if (name != "") { skip_blank(); if (here(1) == ":") at++; skip_blank() }
+    if (here(1) == "{") { at++; read_clause(); token = token "{}" }
+    else if (at <= size) at = from
+}
 
 # The words of a clause up to its closing brace, as term[1] to term[terms]; near[i] where no space stands before it,
 # escaped[i] where it stood in « ». A bracket ⟦ .. ⟧ is one word.
@@ -95,24 +114,46 @@ function read_clause(    c, depth, from, spaced, n) {
         term[++terms] = substr(text, from, at - from)
         near[terms] = !spaced
         escaped[terms] = n && c == substr("«", 1, 1)
-        if (escaped[terms]) term[terms] = substr(text, from + 2, at - from - 4)
+        if (escaped[terms] && term[terms] !~ /^«([][(){}.;,@"|:=]|λ|↦|←|let|do|record)»$/) # a sign so written is no sign
+            term[terms] = substr(text, from + 2, at - from - 4)
         if (c == "\"") term[terms] = c
         spaced = 0
     }
     fault("a clause does not end")
 }
 
-# Is term[i] this name: not a field (x .name), not the head of a path (name.x)? With _ in it, it is a name only in « ».
+# Is term[i] this name: not a field (x .name, name = x), not the head of a path (name.x)? With _ it is a name only in « ».
 function is_name(i, name) {
-    if (term[i] != name || (index(name, "_") && !escaped[i])) return 0
+    if (term[i] != name || (index(name, "_") && !escaped[i]) || term[i + 1] == "=") return 0
     if (term[i - 1] == "." && near[i]) return 0
     return !(term[i + 1] == "." && near[i + 1] && near[i + 2])
 }
 
+# bound[i]: term[i] stands where names are bound: from λ to its dot, from let to its =, or before : ↦ ←.
+function mark_bound(    i, j, depth) {
+    for (i = 1; i <= terms; i++) bound[i] = 0
+    for (i = 1; i <= terms; i++) {
+        depth = 0
+        if (term[i] == "λ") {
+            for (j = i + 1; j <= terms && (depth || term[j] != "."); j++) {
+                bound[j] = 1
+                depth += (term[j] ~ /^[({]$/) - (term[j] ~ /^[)}]$/)
+            }
+        } else if (term[i] ~ /^(:|=|↦|←)$/) {
+            for (j = i - 1; j > 0 && (depth || term[j] !~ /^([({;|[]|let|do)$/); j--) {
+                depth += (term[j] ~ /^[)}]$/) - (term[j] ~ /^[({]$/)
+                if (!depth && term[i] == "←") { j--; break } # one name or one bracket
+            }
+            if (term[i] != "=" || term[j] == "let") while (++j < i) bound[j] = 1 # a field's name before = binds nothing
+        }
+    }
+}
+
 # What an ensures speaks of: the result, if what it binds last (λ r., λ ghost r., λ (r : ℕ).) is used behind that;
-# a &mut parameter p, if `p .exit` is there, or ⟦code with p⟧ .exit.
-function read_ensures(    i, j, p, binders, depth, result) {
+# a &mut parameter p, if `p .exit` is there, or ⟦p and more code⟧ .exit. Bound again, a name is hidden from there on.
+function read_ensures(    i, j, p, binders, depth, result, hidden) {
     term[0] = term[terms + 1] = term[terms + 2] = ""
+    mark_bound()
     for (i = 1; term[i] == "λ"; i++)
         for (i++; i <= terms && (depth || term[i] != "."); i++) {
             if (!depth && term[i] !~ /^[(){}]$/) { binders++; result = term[i] }
@@ -120,20 +161,18 @@ function read_ensures(    i, j, p, binders, depth, result) {
             if (term[i] ~ /^[({]$/) depth++
             if (term[i] ~ /^[)}]$/) depth--
         }
-    for (j = i; j <= terms; j++) {
-        if (term[j] == "λ") { # another binder of the same name hides the result
-            for (j++; j <= terms && term[j] != "."; j++) if (term[j] == result) result = "_"
-        } else if (binders == ghosts + 1 && result != "_" && is_name(j, result)) {
-            if (term[j + 1] == ":") result = "_"
-            else result_named = 1
+    if (binders != ghosts + 1 || result == "record") result = "_"
+    for (j = 1; j <= terms; j++) {
+        if (j >= i && term[j] == result && bound[j]) result = "_"
+        if (j >= i && result != "_" && is_name(j, result)) result_named = 1
+        for (p = 1; p <= muts; p++) {
+            if (term[j] == mut[p] && bound[j]) hidden = hidden " " p " "
+            if (term[j + 1] == "." && term[j + 2] == "exit" && near[j + 2] && !index(hidden, " " p " "))
+                if (is_name(j, mut[p]) || begins_bracket(term[j], mut[p])) said[p] = 1
         }
-        if (term[j + 1] == "." && term[j + 2] == "exit" && near[j + 2])
-            for (p = 1; p <= muts; p++) if (is_name(j, mut[p]) || in_bracket(term[j], mut[p])) said[p] = 1
     }
 }
-function in_bracket(bracket, name) {
-    return substr(bracket, 1, 3) == "⟦" && bracket ~ ("[^A-Za-z0-9_]" name "[^A-Za-z0-9_]")
-}
+function begins_bracket(bracket, name) { return bracket ~ ("^⟦[ *&(]*" name "([][ .)]|⟧)") }
 
 # ---- Files
 
@@ -150,6 +189,7 @@ function read_file(    part, n, i, path, depth, scope, angle) {
     while (token != "") {
         scope = ""
         if (token == "pub") { read_public(path); continue }
+        if (token ~ /^(struct|enum|type)$/) { read_type(); next_token(); continue }
         if (token == "mod") { scope = next_token(); next_token() }
         else if (token == "impl") {
             angle = 0
@@ -164,6 +204,19 @@ function read_file(    part, n, i, path, depth, scope, angle) {
         next_token()
     }
     if (depth) fault("a brace is not closed")
+}
+
+# A struct, an enum or a type, up to its end: with a &mut in it, a parameter of that type could change what it lends.
+function read_type(    name, depth, holds) {
+    name = token
+    name = name " " next_token()
+    while (next_token() != "" && (depth || token != ";")) {
+        if (token == "mut") holds = 1
+        if (token ~ /^[([{]$/) depth++
+        if (token ~ /^[])}]$/ && --depth == 0 && token == "}") break
+    }
+    if (token == "") return fault(name " does not end")
+    if (holds) print "! " file ": " name " holds a &mut, which is out of sight in a parameter of that type: pass it as a parameter of its own"
 }
 
 # From pub on: if it is a function, up to its body.
@@ -210,5 +263,5 @@ function read_public(path,    name, result, requires, ensures, depth, parameter,
         for (p = 1; p <= muts; p++) if (!said[p])
             wrong = wrong "\tcan change " mut[p] ", and its ensures does not say what it leaves there: name " mut[p] " .exit in it"
     }
-    print name " " requires + 0 wrong
+    print name " " requires + ghosts wrong
 }
