@@ -1,12 +1,13 @@
 -- What a row of the worked lists says of a job, what that means, and a test of it by computing, with the proof that the test is right.
-use mathlib.Core.Path.{_≡_, refl, sym, ap, subst}
+use mathlib.Core.Path.{_≡_, refl, sym, _∙_, ap, subst}
 use mathlib.Core.Bool.{Bool, true, false, _&&_}
 use mathlib.Core.List.{List, [], _∷_}
-use mathlib.Core.Option.{Option, none, some}
+use mathlib.Core.Option.{Option, none, some, Option·none-ne-some, Option·some-injective}
 use Prim.Native.Nat.{ℕ, _≤_}
 use lib.Dec.{T, eqb, leb, eqb→eq, leb→le}
-use lib.ListN.{length}
+use lib.ListN.{length, getElem?}
 use Rattle.reach.specs.Lists.{All}
+use Rattle.reach.specs.ListLaws.{all-nth}
 use Rattle.reach.specs.System.{run}
 use Rattle.reach.specs.Meaning.{LeadsTo, AtMost, Reached, Counts, Answer, reachable, unreachable, unknown, Outcome, Means, MeansAt, Brings, Outnumber}
 use Rattle.reach.specs.Rows.{find}
@@ -20,7 +21,7 @@ use Rattle.rules.specs.Job.{Job, start}
 use Rattle.rules.specs.Step.{enabled}
 use Rattle.rules.specs.Slot.{slot-bytes}
 use Rattle.rules.specs.Goal.{every, goal}
-use Rattle.rules.specs.File.{Decoded, accepted, refused, decode, held-job}
+use Rattle.rules.specs.File.{Decoded, accepted, refused, decode, held-job, job-of}
 use Rattle.rules.specs.Tests.{both, three}
 use Rattle.rules.specs.Machine.{machine}
 use Rattle.rules.specs.Same.{same-list, same-list-equal, same-state, same-state-equal, searchable}
@@ -50,7 +51,8 @@ pub record Case : Type 0 where
 abbrev pub case : ℕ → List ℕ → Claim → Case
 case n b c = record { slots = n; bytes = b; claim = c }
 
--- What each claim means: distance, first schedule, counts, never, walks, runs; no computed function is named.
+-- What each claim means: distance, first schedule, counts, never, walks, runs, the bytes of a slot, the enabled steps. What computes an
+-- answer is not named.
 
 -- slots hold, one after the other, the states to which the schedules lead
 abbrev pub InTurn : Job → List (List ℕ) → List State → Type 0
@@ -330,47 +332,34 @@ all-right (c ∷ l) t =
     let p = both (case-test c) (every case-test l) t in
     (decoded-right (c .slots) (c .claim) (decode (c .bytes)) (p .0), all-right l (p .1))
 
--- a row about a refusal fixes what the decoder says
-as-decoded : Claim → Decoded
-as-decoded (search-reaches n w) = refused 0 0
-as-decoded (search-never n) = refused 0 0
-as-decoded search-unknown = refused 0 0
-as-decoded (slots-follow ws) = refused 0 0
-as-decoded (links-are l) = refused 0 0
-as-decoded (fences-say a) = refused 0 0
-as-decoded (replay-says w a) = refused 0 0
-as-decoded (slot-after w bytes) = refused 0 0
-as-decoded (enabled-after w mask) = refused 0 0
-as-decoded (refuses number offset) = refused number offset
+-- the refusal that a row is about
+abbrev pub refusal-of : Claim → Option Decoded
+refusal-of (search-reaches n w) = none
+refusal-of (search-never n) = none
+refusal-of search-unknown = none
+refusal-of (slots-follow ws) = none
+refusal-of (links-are l) = none
+refusal-of (fences-say a) = none
+refusal-of (replay-says w a) = none
+refusal-of (slot-after w bytes) = none
+refusal-of (enabled-after w mask) = none
+refusal-of (refuses number offset) = some (refused number offset)
 
-pub refusal-meant : (N number offset : ℕ) (d : Decoded) → Meant N (refuses number offset) d → d ≡ refused number offset
-unfolding as-decoded
+refusal-meant : (N number offset : ℕ) (d : Decoded) → Meant N (refuses number offset) d → d ≡ refused number offset
 refusal-meant N number offset (accepted j) h = absurd h
-refusal-meant N number offset (refused k at) h = sym (ap as-decoded h)
+refusal-meant N number offset (refused k at) h = sym (Option·some-injective _ _ (ap refusal-of h))
 
--- a row about anything else is about an accepted job
-of-a-job : Claim → Bool
-of-a-job (search-reaches n w) = true
-of-a-job (search-never n) = true
-of-a-job search-unknown = true
-of-a-job (slots-follow ws) = true
-of-a-job (links-are l) = true
-of-a-job (fences-say a) = true
-of-a-job (replay-says w a) = true
-of-a-job (slot-after w bytes) = true
-of-a-job (enabled-after w mask) = true
-of-a-job (refuses number offset) = false
+accepted-meant : (N : ℕ) (c : Claim) → refusal-of c ≡ none → (d : Decoded) → Meant N c d → d ≡ accepted (held-job d)
+unfolding held-job
+accepted-meant N c e (accepted j) h = refl
+accepted-meant N c e (refused k at) h = absurd (Option·none-ne-some (refused k at) (sym e ∙ ap refusal-of h))
 
-module _ (N : ℕ) (c : Claim) where
-  accepted-meant : T (of-a-job c) → (d : Decoded) → Meant N c d → d ≡ accepted (held-job d)
-  unfolding of-a-job held-job
-  accepted-meant t (accepted j) h = refl
-  accepted-meant t (refused number offset) h = absurd (subst (λ z. T (of-a-job z)) h t)
+-- What row i of a list says of the decoder: a row about a refusal is refused so, a row about anything else is accepted.
+module _ (l : List Case) (holds : All CaseHolds l) (i n : ℕ) (bytes : List ℕ) where
+  pub row-refuses : (number offset : ℕ) → getElem? l i ≡ some (case n bytes (refuses number offset)) → decode bytes ≡ refused number offset
+  row-refuses number offset e =
+      refusal-meant n number offset (decode bytes) (all-nth CaseHolds l holds i (case n bytes (refuses number offset)) e)
 
-pub reaches-accepted : (N n : ℕ) (w : List ℕ) (d : Decoded) → Meant N (search-reaches n w) d → d ≡ accepted (held-job d)
-unfolding of-a-job
-reaches-accepted N n w d h = accepted-meant N (search-reaches n w) tt d h
-
-pub never-accepted : (N n : ℕ) (d : Decoded) → Meant N (search-never n) d → d ≡ accepted (held-job d)
-unfolding of-a-job
-never-accepted N n d h = accepted-meant N (search-never n) tt d h
+  pub row-accepts : (c : Claim) → refusal-of c ≡ none → getElem? l i ≡ some (case n bytes c) → decode bytes ≡ accepted (job-of bytes)
+  unfolding job-of
+  row-accepts c job e = accepted-meant n c job (decode bytes) (all-nth CaseHolds l holds i (case n bytes c) e)

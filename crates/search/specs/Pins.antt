@@ -1,17 +1,15 @@
 -- Worked values of N, of refusal 7 and of the words: 01, "Search" and "Refusal numbers and their order".
 use mathlib.Core.Path.{_≡_, refl, subst}
 use mathlib.Core.List.{List, [], _∷_}
-use mathlib.Core.Option.{some}
 use Prim.Native.Nat.{ℕ}
-use lib.ListN.{length, set, getElem?}
+use lib.ListN.{length, set}
 use Rattle.reach.specs.Lists.{All}
-use Rattle.reach.specs.ListLaws.{all-nth}
 use Rattle.rules.specs.Limits.{slot-size}
 use Rattle.rules.specs.Slot.{slot-bytes}
 use Rattle.rules.specs.Machine.{machine}
 use Rattle.rules.specs.File.{accepted, refused, decode, job-of}
 use Rattle.rules.specs.Jobs.{p1}
-use Rattle.rules.specs.Claims.{Case, case, CaseHolds, search-reaches, refuses, reaches-accepted, refusal-meant}
+use Rattle.rules.specs.Claims.{search-reaches, row-accepts, row-refuses}
 use Rattle.rules.specs.Pins.{pins}
 use Rattle.rules.specs.Worked.{table, worked, pinned}
 use Rattle.lent.specs.Meaning.{Lent, slots-lent, AnsweredWith}
@@ -71,10 +69,8 @@ none-lent bytes is m m′ ws none h =
 
 -- of P1
 pub no-slot-refused : RefusedWithNoSlot p1 7 0
-unfolding table job-of
-no-slot-refused =
-    let w : List ℕ = 0x00 ∷ 0x00 ∷ 0x01 ∷ 0x01 ∷ [] in
-    none-lent p1 (reaches-accepted 640 22 w (decode p1) (all-nth CaseHolds table worked 0 (case 640 p1 (search-reaches 22 w)) refl))
+unfolding table
+no-slot-refused = none-lent p1 (row-accepts table worked 0 640 p1 (search-reaches 22 (0x00 ∷ 0x00 ∷ 0x01 ∷ 0x01 ∷ [])) refl refl)
 
 -- "7 last": a job that has a fault of 1 to 6 is refused by that, with no slot lent too
 refused-first : (bytes : List ℕ) (number offset : ℕ) → decode bytes ≡ refused number offset → RefusedWithNoSlot bytes number offset
@@ -83,12 +79,6 @@ refused-first bytes number offset is m m′ ws none h =
     (refusal .answer, refusal .untouched)
 
 -- of each number one, by its row in 01's list or beyond it
-module _ (bytes : List ℕ) (number offset : ℕ) (l : List Case) (holds : All CaseHolds l) where
-  by-row : (i : ℕ) → getElem? l i ≡ some (case 640 bytes (refuses number offset)) → RefusedWithNoSlot bytes number offset
-  by-row i e =
-      refused-first bytes number offset
-      (refusal-meant 640 number offset (decode bytes) (all-nth CaseHolds l holds i (case 640 bytes (refuses number offset)) e))
-
 pub seven-is-last :
     RefusedWithNoSlot [] 1 0
     × RefusedWithNoSlot (0x00 ∷ 0x01 ∷ 0x02 ∷ []) 2 2
@@ -98,12 +88,12 @@ pub seven-is-last :
     × RefusedWithNoSlot (0x00 ∷ 0x01 ∷ 0x01 ∷ []) 6 3
 unfolding table pins
 seven-is-last = (
-  by-row [] 1 0 table worked 16 refl,
-  by-row (0x00 ∷ 0x01 ∷ 0x02 ∷ []) 2 2 table worked 17 refl,
-  by-row (set p1 5 0x05) 3 5 pins pinned 10 refl,
-  by-row (set p1 10 0x0A) 4 10 table worked 19 refl,
-  by-row (set p1 27 0x02) 5 27 pins pinned 11 refl,
-  by-row (0x00 ∷ 0x01 ∷ 0x01 ∷ []) 6 3 table worked 18 refl,
+  refused-first [] 1 0 (row-refuses table worked 16 640 [] 1 0 refl),
+  refused-first (0x00 ∷ 0x01 ∷ 0x02 ∷ []) 2 2 (row-refuses table worked 17 640 (0x00 ∷ 0x01 ∷ 0x02 ∷ []) 2 2 refl),
+  refused-first (set p1 5 0x05) 3 5 (row-refuses pins pinned 10 640 (set p1 5 0x05) 3 5 refl),
+  refused-first (set p1 10 0x0A) 4 10 (row-refuses table worked 19 640 (set p1 10 0x0A) 4 10 refl),
+  refused-first (set p1 27 0x02) 5 27 (row-refuses pins pinned 11 640 (set p1 27 0x02) 5 27 refl),
+  refused-first (0x00 ∷ 0x01 ∷ 0x01 ∷ []) 6 3 (row-refuses table worked 18 640 (0x00 ∷ 0x01 ∷ 0x01 ∷ []) 6 3 refl),
 )
 
 -- the words of each case: its number, and its values in their order

@@ -3,29 +3,26 @@ use mathlib.Core.Path.{_≡_, refl, sym, _∙_, ap, subst}
 use mathlib.Core.Bool.{Bool, true, false}
 use mathlib.Core.List.{List, [], _∷_}
 use mathlib.Core.Option.{some}
-use Prim.Native.Nat.{ℕ, _≤_}
+use Prim.Native.Nat.{ℕ}
 use native.Mathlib.Omega.{arith}
 use lib.Dec.{T}
-use lib.ListN.{length, getD, getElem?, set}
+use lib.ListN.{getD, getElem?, set}
 use Rattle.reach.specs.Lists.{All}
 use Rattle.reach.specs.ListLaws.{all-nth}
-use Rattle.reach.specs.Meaning.{unreachable, unknown}
-use Rattle.reach.specs.Words.{answer-words}
 use Rattle.rules.specs.File.{read-on, _>>=_, done, times, judged, byte, item, field, model-of, in-range, capacity-of, register-ok, zero-ok}
 use Rattle.rules.specs.File.{instruction-of, instruction, thread, flag-of, clause-of, clause, ended, fields, length-ok}
-use Rattle.rules.specs.File.{Decoded, accepted, refused, decoded, decode, held-job, job-of}
+use Rattle.rules.specs.File.{accepted, refused, decoded, decode, held-job, job-of}
 use Rattle.rules.specs.Fences.{fenced, open-at}
-use Rattle.rules.specs.declared.Model.{Model}
 use Rattle.rules.specs.declared.Model.the-variants.{Sc, Tso, Pso}
 use Rattle.rules.specs.Jobs.{p1, p2, p4, p6, p7, p9, p9-sc, p9-sc-drained, p2-drained}
-use Rattle.rules.specs.Claims.{Case, case, CaseHolds, Claim, search-reaches, search-never, search-unknown, fences-say, refuses, refusal-meant, never-accepted}
+use Rattle.rules.specs.Claims.{Case, case, CaseHolds, search-reaches, search-never, search-unknown, fences-say, row-refuses, row-accepts}
 use Rattle.rules.specs.Pins.{pins}
 use Rattle.rules.specs.Worked.{table, worked, pinned}
 use Rattle.lent.specs.Meaning.{Lent}
 use Rattle.search.specs.Meaning as search
 use Rattle.search.specs.Pins.{none-lent}
 use Rattle.fences.specs.Meaning as fences
-use Rattle.together.specs.Answered.{reachable-words, unreachable-words}
+use Rattle.together.specs.Answered.{unreachable-words}
 use Rattle.together.specs.Listed.{CaseFixed, listed, pins-listed}
 use Rattle.verdict.specs.declared.Verdict.{Verdict}
 use Rattle.verdict.specs.Meaning.{ScAsks, MayRelease, VerdictPromise}
@@ -151,8 +148,7 @@ never-released r n says is found asked =
 -- an unreachable job of a list, by its row
 module _ (l : List Case) (holds : All CaseHolds l) (bytes : List ℕ) (n i : ℕ) (at : getElem? l i ≡ some (case 640 bytes (search-never n))) where
   is-accepted : decode bytes ≡ accepted (job-of bytes)
-  unfolding job-of
-  is-accepted = never-accepted 640 n (decode bytes) (all-nth CaseHolds l holds i (case 640 bytes (search-never n)) at)
+  is-accepted = row-accepts l holds i 640 bytes (search-never n) refl at
 
   is-never :
       All CaseFixed l →
@@ -222,14 +218,11 @@ p7-released =
 
 refused-held : Judged (row 640 (set p1 10 0x0A) hold)
 unfolding table
-refused-held =
-    refused-job (row 640 (set p1 10 0x0A) hold) refl 4 10
-    (refusal-meant 640 4 10 (decode (set p1 10 0x0A)) (all-nth CaseHolds table worked 19 (case 640 (set p1 10 0x0A) (refuses 4 10)) refl))
+refused-held = refused-job (row 640 (set p1 10 0x0A) hold) refl 4 10 (row-refuses table worked 19 640 (set p1 10 0x0A) 4 10 refl)
 
 empty-held : Judged (row 640 [] hold)
 unfolding table
-empty-held =
-    refused-job (row 640 [] hold) refl 1 0 (refusal-meant 640 1 0 (decode []) (all-nth CaseHolds table worked 16 (case 640 [] (refuses 1 0)) refl))
+empty-held = refused-job (row 640 [] hold) refl 1 0 (row-refuses table worked 16 640 [] 1 0 refl)
 
 no-slot-held : Judged (row 0 p9 hold)
 unfolding table

@@ -1,5 +1,5 @@
 -- `handshake::replay_words` meets its contract: the words of each case, as the definition has them.
-use mathlib.Core.Path.{_≡_, sym, ap}
+use mathlib.Core.Path.{sym, ap}
 use borrow.Author.Needs.{needs}
 use Rattle.replay.specs.Meaning.{words}
 use Rattle.handshake.proofs.replay_words.Statement.{statement}
