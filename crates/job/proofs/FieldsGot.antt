@@ -9,9 +9,9 @@ use borrow.Author.Tests.{eqb-true}
 use lib.Dec.{eqb}
 use lib.ListN.{length, getD}
 use Rattle.reach.specs.ListLaws.{at-getD}
-use Rattle.rules.specs.Limits.{file-version, most-threads, most-variables, most-pending, most-clauses, length-size, head-size, item-size}
+use Rattle.rules.specs.Limits.{file-version, most-threads, most-variables, most-pending, length-size, head-size, item-size}
 use Rattle.rules.specs.Job.{Job}
-use Rattle.rules.specs.File.{Read, _>>=_, got, fault, times, byte, field, in-range, model-of, capacity-of, flag-of, thread, clause, ended, fields, length-ok, accepted, refused, decoded, decode}
+use Rattle.rules.specs.File.{Read, _>>=_, got, fault, times, byte, field, in-range, model-of, capacity-of, flag-of, clause-count-of, thread, clause, ended, fields, length-ok, accepted, refused, decoded, decode}
 use Rattle.rules.specs.declared.Model.{Model}
 use Rattle.rules.specs.declared.Model.the-variants.{Sc, Tso, Pso}
 use Rattle.rules.specs.declared.Instr.{Instr}
@@ -56,14 +56,14 @@ module _ (bytes : List ℕ) where
   -- a goal that was read over the threads, with what was made of it
   goal-got : {A : Type 0} (threads : List (List Instr)) → threads-of bytes ≡ threads → (make : Bool → List Clause → A) (at : ℕ) (a : A) (next : ℕ) →
       (field bytes 5 flag-of >>= λ flag.
-      field bytes 5 (in-range 0 most-clauses) >>= λ K.
+      field bytes 5 clause-count-of >>= λ K.
       times K (clause bytes (vars-in bytes) threads) >>= λ clauses. ended bytes (make flag clauses)) at
       ≡ got a next →
       (flag : Bool) × (clauses : List Clause) × (make flag clauses ≡ a) × GoalLaid bytes at flag clauses
   unfolding clause byte
   goal-got threads is make at a next e =
       let flag = field-then bytes 5 flag-of _ at a next e in
-      let K = range-then bytes 5 0 most-clauses _ (at + 1) a next (flag .rest) in
+      let K = range-then bytes 5 _ _ _ (at + 1) a next (flag .rest) in
       let t = then-got (times (getD bytes (at + 1) 0) (clause bytes (vars-in bytes) threads)) _ (at + 1 + 1) a next (K .rest) in
       let h = items-laid bytes item-size 5 _ _ (at + 1 + 1) (t .0) (t .1) (t .2) in
       let last = ended-got _ a (t .1) next (t .3) in

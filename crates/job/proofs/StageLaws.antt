@@ -8,9 +8,9 @@ use native.Mathlib.Omega.{arith}
 use native.Mathlib.Decide.{decLt}
 use lib.Dec.{eqb}
 use lib.ListN.{length}
-use Rattle.rules.specs.Limits.{file-version, most-threads, most-variables, most-clauses, length-size, head-size}
+use Rattle.rules.specs.Limits.{file-version, most-threads, most-variables, length-size, head-size}
 use Rattle.rules.specs.Job.{Job}
-use Rattle.rules.specs.File.{Read, got, fault, Reader, read-on, _>>=_, times, judged, byte, field, in-range, model-of, flag-of, clause, ended, fields}
+use Rattle.rules.specs.File.{Read, got, fault, Reader, read-on, _>>=_, times, judged, byte, field, in-range, model-of, flag-of, clause-count-of, clause, ended, fields}
 use Rattle.rules.specs.declared.Clause.{Clause}
 use Rattle.readers.specs.declared.Next.{Next}
 use Rattle.readers.specs.declared.Next.the-variants.{At, Fault}
@@ -47,17 +47,17 @@ module _ (bytes : List ℕ) where
   goal-passed : (make : Bool → List Clause → Job) (at : ℕ) →
       passed
       ((field bytes 5 flag-of >>= λ flag.
-      field bytes 5 (in-range 0 most-clauses) >>= λ K.
+      field bytes 5 clause-count-of >>= λ K.
       times K (clause bytes (vars-in bytes) (threads-of bytes)) >>= λ clauses. ended bytes (make flag clauses)) at)
       ≡ goal-stage bytes at
   unfolding goal-stage clauses-stage
   goal-passed make at =
       passed-then (field bytes 5 flag-of) _ _ at
       (λ flag p e.
-      passed-then (field bytes 5 (in-range 0 most-clauses)) _ _ p
+      passed-then (field bytes 5 clause-count-of) _ _ p
       (λ K q f.
       ended-passed (times K (clause bytes (vars-in bytes) (threads-of bytes))) (make flag) q
-      ∙ ap (λ k. ending bytes (passed (times k (clause bytes (vars-in bytes) (threads-of bytes)) q))) (range-got 0 most-clauses _ K (field-got bytes 5 _ p K q f .holds) .is)))
+      ∙ ap (λ k. ending bytes (passed (times k (clause bytes (vars-in bytes) (threads-of bytes)) q))) (range-got _ _ _ K (field-got bytes 5 _ p K q f .holds) .is)))
 
   value-there : (at : ℕ) → at < length bytes → passed (field bytes 6 some at) ≡ At (at + 1)
   unfolding field judged

@@ -5,8 +5,8 @@ use mathlib.Core.Option.{some}
 use Prim.Native.Nat.{ℕ, _+_}
 use lib.Dec.{eqb}
 use lib.ListN.{length, getD}
-use Rattle.rules.specs.Limits.{most-clauses, head-size}
-use Rattle.rules.specs.File.{Read, times, field, in-range, flag-of, thread, clause}
+use Rattle.rules.specs.Limits.{head-size}
+use Rattle.rules.specs.File.{Read, times, field, flag-of, clause-count-of, thread, clause}
 use Rattle.rules.specs.declared.Instr.{Instr}
 use Rattle.readers.specs.declared.Next.{Next}
 use Rattle.readers.specs.declared.Next.the-variants.{At, Fault}
@@ -33,7 +33,7 @@ module _ (bytes : List ℕ) where
   -- K and as many clauses over the threads, and no byte more
   unfoldable pub clauses-stage : ℕ → Next
   clauses-stage at =
-      chain (passed (field bytes 5 (in-range 0 most-clauses) at))
+      chain (passed (field bytes 5 clause-count-of at))
       (λ next. ending (passed (times (getD bytes at 0) (clause bytes (vars-in bytes) threads-of) next)))
 
   -- the flag, and then K and the clauses

@@ -7,6 +7,7 @@ use readers::NOT_WHOLE;
 use readers::Next;
 use readers::THREADS_AT;
 use readers::VARIABLES_AT;
+use rules::FEWEST_CLAUSES;
 use rules::ITEM_SIZE;
 use rules::MOST_CLAUSES;
 use tables::ClauseRead;
@@ -91,7 +92,7 @@ fn counted(job: &[u8], s: Starts, at: usize) -> Next
     requires { ⌜ StartsLaid (now job) s ⌝ }
     ensures { λ r. ⌜ r ≡ clauses-stage (now (job .entry)) at ⌝ }
 {
-    match readers::field(job, at, GOAL_BAD, 0, MOST_CLAUSES) {
+    match readers::field(job, at, GOAL_BAD, FEWEST_CLAUSES, MOST_CLAUSES) {
         Next::At(next) => ended(job, clauses(job, s, job[at], next)),
         Next::Fault(number, offset) => Next::Fault(number, offset),
     }

@@ -5,7 +5,7 @@ use mathlib.Core.Option.{Option, none, some}
 use Prim.Native.Nat.{ℕ, zero, suc, _+_, _*_}
 use lib.Dec.{eqb, ltb, leb}
 use lib.ListN.{length, getD}
-use Rattle.rules.specs.Limits.{most-threads, most-variables, registers-each, longest-thread, most-pending, most-clauses, shortest-file, longest-file, byte-values, file-version, length-size, item-size}
+use Rattle.rules.specs.Limits.{most-threads, most-variables, registers-each, longest-thread, most-pending, fewest-clauses, most-clauses, shortest-file, longest-file, byte-values, file-version, length-size, item-size}
 use Rattle.rules.specs.Job.{Job}
 use Rattle.rules.specs.Step.{given}
 use Rattle.rules.specs.declared.Model.{Model}
@@ -89,6 +89,10 @@ instruction-of vars n op a b c =
 unfoldable pub flag-of : ℕ → Option Bool
 flag-of k = getD (some false ∷ some true ∷ []) k none
 
+-- K, the number of clauses
+abbrev pub clause-count-of : ℕ → Option ℕ
+clause-count-of = in-range fewest-clauses most-clauses
+
 -- "(1, t, 0, p) .. p from 0 to its n; (2, t, r, k) ..; (3, v, 0, k) ..; t below T, r 0 to 3, v below V, any other clause is bad"
 unfoldable pub clause-of : (vars count n kind a b c : ℕ) → Option Clause
 clause-of vars count n kind a b c =
@@ -145,7 +149,7 @@ module _ (bytes : List ℕ) where
       times vars (field 6 some) >>= λ initial.
       times count (thread vars) >>= λ threads.
       field 5 flag-of >>= λ flag.
-      field 5 (in-range 0 most-clauses) >>= λ K.
+      field 5 clause-count-of >>= λ K.
       times K (clause vars threads) >>= λ clauses.
       ended
       (record {

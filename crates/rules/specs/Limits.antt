@@ -27,7 +27,10 @@ longest-thread = 32
 abbrev pub most-pending : ℕ
 most-pending = 8
 
--- "K at most 16"
+-- "K at most 16": 0 to 16
+abbrev pub fewest-clauses : ℕ
+fewest-clauses = 0
+
 abbrev pub most-clauses : ℕ
 most-clauses = 16
 
