@@ -13,7 +13,7 @@
  *   2  version not 1: 2
  *   3  model, C, T or V out of range: that byte
  *   4  n above 32: that n; an instruction with a bad operation, operand or zero byte: its first byte
- *   5  flag not 0 or 1, or K above 16: that byte; a bad clause: its first byte
+ *   5  flag not 0 or 1, or K, the number of clauses, not 1 to 16: that byte; a bad clause: its first byte
  *   6  a field, instruction or clause isn't wholly there: where it begins; bytes left over: the first of them
  *   7  search only, no slot (N is 0): 0
  * 1 is judged first, then the fields from the front, of each item first whether it is wholly there; the first fault wins. 7 comes last. */

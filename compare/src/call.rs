@@ -1,6 +1,7 @@
 //! One call of a public job, with all the memory that it sees.
 
 use crate::lent::Lent;
+use second::machine::SLOT_BYTES;
 use second::random::{Random, Sizes};
 
 #[derive(Clone, Copy, Debug, PartialEq, Eq)]
@@ -51,6 +52,12 @@ impl Call {
             schedule: Lent::random(random, sizes.schedule),
             answer: Lent::random(random, 4),
         }
+    }
+
+    /// True when a search of an accepted job would be refusal 7.
+    pub fn has_no_slot(&self) -> bool {
+        let slots = self.table.count() / SLOT_BYTES;
+        slots == 0 || self.links.count() == 0 || self.schedule.count() == 0
     }
 
     pub fn words(&self) -> [u64; 4] {

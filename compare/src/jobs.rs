@@ -1,7 +1,9 @@
 //! Jobs to compare on: the listed ones first, then random ones of many shapes, sound and damaged.
 
 use crate::walk::walk;
-use second::listed::{at_the_limit, bench_list, file, settled, with_byte, Memory, Program, P1, SC};
+use second::listed::{
+    at_the_limit, bench_list, file, settled, with_byte, Memory, Program, AT_THE_START, P1, SC,
+};
 use second::machine::State;
 use second::random::{damaged_job, random_bytes, sound_job, Random};
 use second::{decode, Job};
@@ -17,7 +19,11 @@ pub fn job(random: &mut Random, number: u64) -> Vec<u8> {
     }
     match random.below(100) {
         0..=7 => random_bytes(random),
-        8..=27 => damaged_job(random),
+        8..=23 => damaged_job(random),
+        24..=27 => {
+            let job = sound_of_any_shape(random, listed);
+            with_blank_goal(random, job)
+        }
         28..=31 => {
             let job = listed.swap_remove(random.below(listed.len()));
             damaged(random, job)
@@ -37,6 +43,18 @@ pub fn job(random: &mut Random, number: u64) -> Vec<u8> {
             with_far_goal(random, job)
         }
         _ => full_size(random),
+    }
+}
+
+fn sound_of_any_shape(random: &mut Random, mut listed: Vec<Vec<u8>>) -> Vec<u8> {
+    match random.below(4) {
+        0 => sound_job(random),
+        1 => handshake(random),
+        2 => full_size(random),
+        _ => {
+            listed.retain(|job| decode(job).is_ok());
+            listed.swap_remove(random.below(listed.len()))
+        }
     }
 }
 
@@ -77,8 +95,7 @@ pub fn handshake(random: &mut Random) -> Vec<u8> {
         .map(|_| handshake_program(random, variables, longest))
         .collect();
     let initial: Vec<u8> = (0..variables).map(|_| random.below(2) as u8).collect();
-    let memory = some_memory(random);
-    let job = file(memory, &initial, &programs, random.below(2) as u8, &[]);
+    let job = with_any_goal(some_memory(random), &initial, &programs);
     with_near_goal(random, job)
 }
 
@@ -152,7 +169,7 @@ fn phrase(random: &mut Random, at: u8, variables: usize) -> Program {
 fn full_size(random: &mut Random) -> Vec<u8> {
     let programs: Vec<Program> = (0..4).map(|_| full_program(random)).collect();
     let initial: Vec<u8> = (0..8).map(|_| random.byte()).collect();
-    let job = file(some_memory(random), &initial, &programs, 0, &[]);
+    let job = with_any_goal(some_memory(random), &initial, &programs);
     with_far_goal(random, job)
 }
 
@@ -167,6 +184,11 @@ fn full_program(random: &mut Random) -> Program {
 }
 
 // ---- goals ----
+
+/// Without a goal a file is refused and can't be walked, so this one stands in until another takes its place.
+fn with_any_goal(memory: Memory, initial: &[u8], programs: &[Program]) -> Vec<u8> {
+    file(memory, initial, programs, 0, &[AT_THE_START])
+}
 
 /// One or two facts about a state that a walk has been at.
 fn with_near_goal(random: &mut Random, job: Vec<u8>) -> Vec<u8> {
@@ -192,16 +214,14 @@ fn with_far_goal(random: &mut Random, job: Vec<u8>) -> Vec<u8> {
     })
 }
 
+/// The sound job with another goal, made of the state at a walk's end.
 fn with_goal_after(
     random: &mut Random,
     job: Vec<u8>,
     most_steps: usize,
     clauses: impl Fn(&mut Random, &State) -> Vec<[u8; 4]>,
 ) -> Vec<u8> {
-    let decoded = match decode(&job) {
-        Ok(decoded) => decoded,
-        _ => return job,
-    };
+    let decoded = decode(&job).expect("only a sound job gets another goal");
     let steps = random.between(2, most_steps);
     let (_, state) = walk(random, &decoded, steps);
     let empty = state.threads.iter().all(|thread| thread.pending() == 0);
@@ -240,6 +260,23 @@ fn goal_offset(job: &Job) -> usize {
         .map(|program| 1 + 4 * program.len())
         .sum();
     7 + job.initial.len() + programs
+}
+
+/// The sound job with K = 0, the clauses taken away or left behind; now and then another fault shows which one wins.
+fn with_blank_goal(random: &mut Random, mut job: Vec<u8>) -> Vec<u8> {
+    let flag = goal_offset(&decode(&job).expect("only a sound job's goal is made blank"));
+    let k = flag + 1;
+    job[k] = 0;
+    if random.percent(60) {
+        job.truncate(k + 1);
+    }
+    match random.below(10) {
+        0 => job[flag] = random.pick(&[2, 255]),
+        1 => job.truncate(k),
+        2 => return damaged(random, job),
+        _ => {}
+    }
+    settled(job)
 }
 
 // ---- damage ----

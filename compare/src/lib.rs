@@ -1,5 +1,6 @@
 //! Holds the proved library to the second checker: the same calls over the same memory, compared whole.
 
+pub mod blank;
 pub mod call;
 pub mod hold;
 pub mod jobs;

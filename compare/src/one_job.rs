@@ -1,5 +1,6 @@
 //! Everything that is compared for one job.
 
+use crate::blank::{self, Blank};
 use crate::call::{Call, Checker};
 use crate::hold::hold;
 use crate::rooms::Room;
@@ -27,6 +28,7 @@ pub fn compare_job(
         random: random_for(seed, number),
         number,
         model: None,
+        blank: None,
         tally,
         differences: Vec::new(),
     };
@@ -46,6 +48,8 @@ struct Comparison<'a> {
     number: u64,
     /// Of an accepted job.
     model: Option<second::job::Model>,
+    /// Of a refused job.
+    blank: Option<Blank>,
     tally: &'a mut Tally,
     differences: Vec<Difference>,
 }
@@ -56,7 +60,8 @@ impl Comparison<'_> {
         match decode(&job) {
             Ok(decoded) => self.accepted(&job, &decoded),
             Err(refusal) => {
-                self.tally.refused_job(refusal.number);
+                self.blank = blank::met(&job, refusal);
+                self.tally.refused_job(refusal.number, self.blank);
                 self.refused(&job);
             }
         }
@@ -125,6 +130,9 @@ impl Comparison<'_> {
     fn hold(&mut self, call: Call) -> Call {
         let held = hold(self.library, call);
         self.tally.call(&held.expected, self.model);
+        if let Some(Blank::Goal { .. }) = self.blank {
+            self.tally.call_with_blank_goal(&held.expected);
+        }
         if let Some(text) = held.difference {
             self.differences.push(Difference {
                 job: self.number,

@@ -1,5 +1,6 @@
 //! What a run was made of, so that a run over jobs of one kind doesn't pass for a test.
 
+use crate::blank::Blank;
 use crate::call::{Call, Kind};
 use crate::rooms::{self, Room};
 use crate::schedules::LONG;
@@ -25,9 +26,10 @@ const VARIABLES: &str = "variables";
 const CAPACITY: &str = "capacities";
 const PROGRAMS: &str = "jobs with";
 const GOALS: &str = "goals";
+const BLANK: &str = "blank goals";
 
 /// Every class that is named in the summary, in its order.
-const SECTIONS: [(&str, &[&str]); 17] = [
+const SECTIONS: [(&str, &[&str]); 18] = [
     (JOBS, &["accepted", "refused"]),
     (REFUSED, &["1", "2", "3", "4", "5", "6"]),
     (THREADS, &["1", "2", "3", "4"]),
@@ -45,7 +47,21 @@ const SECTIONS: [(&str, &[&str]); 17] = [
     ),
     (
         GOALS,
-        &["any buffers", "empty buffers", "no clause", "16 clauses"],
+        &["any buffers", "empty buffers", "1 clause", "16 clauses"],
+    ),
+    (
+        BLANK,
+        &[
+            "any buffers",
+            "empty buffers",
+            "bytes behind",
+            "behind a bad flag",
+            "cut before K",
+            "searches",
+            "searches without a slot",
+            "replays",
+            "fence checks",
+        ],
     ),
     (
         ROOM,
@@ -121,9 +137,28 @@ impl Tally {
             .collect()
     }
 
-    pub fn refused_job(&mut self, number: u8) {
+    pub fn refused_job(&mut self, number: u8, blank: Option<Blank>) {
         self.count(JOBS, "refused");
         self.count(REFUSED, NUMBERS[usize::from(number)]);
+        if let Some(blank) = blank {
+            self.count_blank(blank);
+        }
+    }
+
+    fn count_blank(&mut self, blank: Blank) {
+        match blank {
+            Blank::Goal {
+                buffers_empty,
+                bytes_behind,
+            } => {
+                self.count(BLANK, buffers_class(buffers_empty));
+                if bytes_behind {
+                    self.count(BLANK, "bytes behind");
+                }
+            }
+            Blank::BehindBadFlag => self.count(BLANK, "behind a bad flag"),
+            Blank::CutBeforeK => self.count(BLANK, "cut before K"),
+        }
     }
 
     pub fn accepted_job(&mut self, job: &Job) {
@@ -136,16 +171,9 @@ impl Tally {
     }
 
     fn count_goal(&mut self, job: &Job) {
-        self.count(
-            GOALS,
-            if job.goal.buffers_empty {
-                "empty buffers"
-            } else {
-                "any buffers"
-            },
-        );
+        self.count(GOALS, buffers_class(job.goal.buffers_empty));
         match job.goal.clauses.len() {
-            0 => self.count(GOALS, "no clause"),
+            1 => self.count(GOALS, "1 clause"),
             16 => self.count(GOALS, "16 clauses"),
             _ => {}
         }
@@ -219,6 +247,20 @@ impl Tally {
         }
     }
 
+    /// A call of a job that is refused for its blank goal.
+    pub fn call_with_blank_goal(&mut self, call: &Call) {
+        match call.kind {
+            Kind::Search => {
+                self.count(BLANK, "searches");
+                if call.has_no_slot() {
+                    self.count(BLANK, "searches without a slot");
+                }
+            }
+            Kind::Replay => self.count(BLANK, "replays"),
+            Kind::Fences => self.count(BLANK, "fence checks"),
+        }
+    }
+
     fn search(&mut self, [kind, first, second, _]: [u64; 4], model: Option<Model>) {
         self.count("calls", "search");
         let (class, states) = match kind {
@@ -289,5 +331,13 @@ impl Tally {
             "", self.greatest_distance, self.most_states
         );
         text
+    }
+}
+
+fn buffers_class(buffers_empty: bool) -> &'static str {
+    if buffers_empty {
+        "empty buffers"
+    } else {
+        "any buffers"
     }
 }

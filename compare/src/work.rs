@@ -45,7 +45,7 @@ pub fn work(job: &Job, slots: usize) -> Work {
 mod tests {
     use super::*;
     use second::decode;
-    use second::listed::{bench_list, file, SC};
+    use second::listed::{bench_list, file, AT_THE_START, SC};
 
     fn work_of(job: &[u8], slots: usize) -> Work {
         work(&decode(job).expect("the job is sound"), slots)
@@ -53,7 +53,7 @@ mod tests {
 
     #[test]
     fn one_thread_compares_with_all_that_were_before() {
-        let job = file(SC, &[0], &[vec![[1, 0, 0, 7]; 4]], 0, &[]);
+        let job = file(SC, &[0], &[vec![[1, 0, 0, 7]; 4]], 0, &[AT_THE_START]);
         let whole = Work {
             states: 5,
             steps: 4,
@@ -71,7 +71,7 @@ mod tests {
 
     #[test]
     fn a_state_that_is_known_costs_its_place() {
-        let job = file(SC, &[0], &[vec![[9, 0, 0, 0]]], 0, &[]);
+        let job = file(SC, &[0], &[vec![[9, 0, 0, 0]]], 0, &[AT_THE_START]);
         let whole = Work {
             states: 1,
             steps: 1,

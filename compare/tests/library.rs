@@ -228,13 +228,51 @@ fn empty_slices_are_no_special_case() {
     assert_eq!(search(&[], &mut [], &mut [], &mut []), [0, 1, 0, 0]);
     assert_eq!(replay(&[], &[]), [0, 1, 0, 0]);
     assert_eq!(replay(&P1, &[]), [2, 0, 0, 0]);
-    assert_eq!(replay(&p(12), &[]), [1, 0, 0, 0]);
+    assert_eq!(replay(&p(10), &[]), [1, 0, 0, 0]);
     assert_eq!(fences(&[]), [0, 1, 0, 0]);
 }
 
 #[test]
-fn p12_is_reached_at_the_start() {
-    let run = run(&p(12), 1);
+fn p10_is_reached_at_the_start() {
+    let run = run(&p(10), 1);
     assert_eq!(run.answer, [1, 0, 1, 0]);
     assert!(run.wrote_no_more_than(1, 0));
+}
+
+/// P1 with these bytes for a goal: the flag stands at 27 and K at 28.
+fn with_goal(goal: &[u8]) -> Vec<u8> {
+    settled([&P1[..27], goal].concat())
+}
+
+#[test]
+fn p12_a_blank_goal_is_refused_whatever_the_flag() {
+    assert_eq!(with_goal(&[0, 0]), p(12));
+    for goal in [&[0, 0][..], &[1, 0], &[0, 0, 1, 0, 0, 0]] {
+        let job = with_goal(goal);
+        let refusal = [0, 5, 28, 0];
+        // With no slot as well: that is judged last.
+        for slots in [0, 1, 640] {
+            let run = run(&job, slots);
+            assert_eq!(run.answer, refusal, "{goal:?}");
+            assert!(run.wrote_no_more_than(0, 0));
+        }
+        assert_eq!(replay(&job, &[]), refusal, "{goal:?}");
+        assert_eq!(fences(&job), refusal, "{goal:?}");
+    }
+}
+
+#[test]
+fn flag_and_missing_k_are_judged_before_a_blank_goal() {
+    for (goal, number, offset) in [
+        (vec![2, 0], 5, 27),
+        (vec![255, 0], 5, 27),
+        (vec![0], 6, 28),
+        (vec![1], 6, 28),
+    ] {
+        let job = with_goal(&goal);
+        let refusal = [0, number, offset, 0];
+        assert_eq!(run(&job, 1).answer, refusal, "{goal:?}");
+        assert_eq!(replay(&job, &[]), refusal, "{goal:?}");
+        assert_eq!(fences(&job), refusal, "{goal:?}");
+    }
 }

@@ -1,5 +1,6 @@
 //! The comparison notices what it is there for: stand-ins that err in one place each.
 
+use compare::blank::{self, Blank};
 use compare::call::{Call, Checker, Kind, Second};
 use compare::hold::hold;
 use compare::jobs;
@@ -7,6 +8,7 @@ use compare::run::{run, Plan, Report};
 use second::listed::{with_byte, P1};
 use second::machine::SLOT_BYTES;
 use second::random::{Random, Sizes};
+use second::Refusal;
 
 /// Answers as the second checker does, and then spoils what it left.
 struct Spoiling<F>(F);
@@ -31,7 +33,11 @@ fn report(library: &dyn Checker, jobs: u64, threads: usize) -> Report {
 
 /// What a run of a few jobs says first about a stand-in that spoils its calls so.
 fn first_difference(spoil: impl Fn(&mut Call) + Sync) -> String {
-    let report = report(&Spoiling(spoil), 200, 1);
+    first_difference_of(200, spoil)
+}
+
+fn first_difference_of(jobs: u64, spoil: impl Fn(&mut Call) + Sync) -> String {
+    let report = report(&Spoiling(spoil), jobs, 1);
     assert!(report.differences > 0, "nothing was noticed");
     report.kept[0].text.clone()
 }
@@ -102,6 +108,90 @@ fn a_refusal_at_another_offset() {
     first_difference(|call| {
         if call.words()[0] == 0 {
             call.answer.part_mut()[2] += 4;
+        }
+    });
+}
+
+/// What a call that was refused has to do with a blank goal.
+fn blank(call: &Call) -> Option<Blank> {
+    match call.words() {
+        [0, number, offset, _] if number < 7 => {
+            let refusal = Refusal {
+                number: number as u8,
+                offset: offset as usize,
+            };
+            blank::met(call.job.part(), refusal)
+        }
+        _ => None,
+    }
+}
+
+#[test]
+fn a_blank_goal_that_one_of_the_three_accepts() {
+    for kind in [Kind::Search, Kind::Replay, Kind::Fences] {
+        for empty in [false, true] {
+            let text = first_difference(|call| match blank(call) {
+                Some(Blank::Goal { buffers_empty, .. })
+                    if call.kind == kind && buffers_empty == empty =>
+                {
+                    set_answer(call, [1, 0, u64::from(kind == Kind::Search), 0])
+                }
+                _ => {}
+            });
+            assert!(
+                text.contains("answer: first difference at 0: library 1, second checker 0"),
+                "{text}"
+            );
+        }
+    }
+}
+
+#[test]
+fn bytes_left_over_told_before_a_blank_goal() {
+    first_difference(|call| {
+        let behind = matches!(
+            blank(call),
+            Some(Blank::Goal {
+                bytes_behind: true,
+                ..
+            })
+        );
+        if behind {
+            let k = call.words()[2];
+            set_answer(call, [0, 6, k + 1, 0]);
+        }
+    });
+}
+
+/// Jobs enough to meet a blank goal together with another fault.
+const FOR_TWO_FAULTS: u64 = 1000;
+
+#[test]
+fn no_slot_told_before_a_blank_goal() {
+    first_difference_of(FOR_TWO_FAULTS, |call| {
+        let is_blank = matches!(blank(call), Some(Blank::Goal { .. }));
+        if call.kind == Kind::Search && call.has_no_slot() && is_blank {
+            set_answer(call, [0, 7, 0, 0]);
+        }
+    });
+}
+
+#[test]
+fn a_blank_goal_told_before_a_bad_flag() {
+    first_difference_of(FOR_TWO_FAULTS, |call| {
+        if blank(call) == Some(Blank::BehindBadFlag) {
+            let flag = call.words()[2];
+            set_answer(call, [0, 5, flag + 1, 0]);
+        }
+    });
+}
+
+#[test]
+fn a_missing_k_taken_for_a_blank_goal() {
+    first_difference_of(FOR_TWO_FAULTS, |call| {
+        if blank(call) == Some(Blank::CutBeforeK) {
+            let k = call.words()[2];
+            set_answer(call, [0, 5, k, 0]);
         }
     });
 }
@@ -283,6 +373,41 @@ fn a_run_over_few_jobs_names_what_it_has_not_met() {
         few.contains(&"replays: over 65,536 steps".to_string()),
         "{few:?}"
     );
+}
+
+#[test]
+fn a_run_without_blank_goals_is_said_to_lack_them() {
+    // The first eleven are P1 to P11.
+    let lacking = report(&Second, 11, 1).tally.empty_classes();
+    let blank: Vec<&str> = lacking
+        .iter()
+        .filter_map(|class| class.strip_prefix("blank goals: "))
+        .collect();
+    assert_eq!(
+        blank,
+        [
+            "any buffers",
+            "empty buffers",
+            "bytes behind",
+            "behind a bad flag",
+            "cut before K",
+            "searches",
+            "searches without a slot",
+            "replays",
+            "fence checks",
+        ]
+    );
+}
+
+#[test]
+fn every_call_of_a_blank_goal_is_counted_once() {
+    // P12 with either flag, the twelfth and the thirteenth.
+    let two = report(&Second, 13, 1).tally;
+    let counted = |class| two.counted("blank goals", class);
+    assert_eq!((counted("any buffers"), counted("empty buffers")), (1, 1));
+    assert_eq!(counted("bytes behind"), 0);
+    assert!(counted("searches") >= 2);
+    assert_eq!((counted("replays"), counted("fence checks")), (2, 2));
 }
 
 #[test]

@@ -2,8 +2,8 @@
 
 use crate::fences::fences;
 use crate::listed::{
-    at_the_limit, bench_list, file, refused_jobs, Memory, Program, MEMORIES, PSO, ROOM_FOR_JOB, SC,
-    TSO,
+    accepted_list, at_the_limit, blank_goals, fewest_and_most_clauses, file, p12, refused_jobs,
+    Memory, Program, AT_THE_START, MEMORIES, P12_REFUSAL, PSO, ROOM_FOR_JOB, SC, TSO,
 };
 use crate::random::{damaged_job, random_bytes, sound_job, Random};
 
@@ -42,6 +42,7 @@ pub fn all_known() -> Vec<Known> {
         under_each_model(),
         each_fence_between(),
         refused(),
+        about_the_range_of_k(),
     ]
     .concat()
 }
@@ -59,10 +60,11 @@ fn listed() -> Vec<Known> {
         FENCED, // P9
         FENCED, // P10 and P11: stores only
         FENCED,
-        "OPEN 0 0 1", // P12 has P1's threads
     ];
     let known = |(job, line): (Vec<u8>, &str)| (job, line.to_string());
-    bench_list().into_iter().zip(lines).map(known).collect()
+    let mut cases: Vec<Known> = accepted_list().into_iter().zip(lines).map(known).collect();
+    cases.extend(p12().map(|job| (job, refused_line(P12_REFUSAL))));
+    cases
 }
 
 const STORE: [u8; 4] = [5, 0, 0, 1];
@@ -82,8 +84,9 @@ const fn jump_if(place: u8) -> [u8; 4] {
     [8, 0, place, 0]
 }
 
+/// What the goal asks for makes no difference to the fence check.
 fn job(memory: Memory, programs: &[Program]) -> Vec<u8> {
-    file(memory, &[0, 0], programs, 0, &[])
+    file(memory, &[0, 0], programs, 0, &[AT_THE_START])
 }
 
 /// The model makes no difference, nor does the capacity.
@@ -381,7 +384,14 @@ fn every_small_program() -> Vec<Vec<u8>> {
 /// Each refusal by the job itself.
 fn refused() -> Vec<Known> {
     let known = |(job, refusal)| (job, refused_line(refusal));
-    refused_jobs().into_iter().map(known).collect()
+    let jobs = [refused_jobs(), blank_goals()].concat();
+    jobs.into_iter().map(known).collect()
+}
+
+/// P1's threads have the same open pair whatever the goal.
+fn about_the_range_of_k() -> Vec<Known> {
+    let jobs = fewest_and_most_clauses().into_iter();
+    jobs.map(|job| (job, open(0, 0, 1))).collect()
 }
 
 const WALK_JOBS: usize = 400;

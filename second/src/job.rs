@@ -95,6 +95,8 @@ pub struct Job {
 
 const LONGEST_FILE: usize = 597;
 const MOST_INSTRUCTIONS: u8 = 32;
+/// A goal of no clause names no state that must not happen.
+const LEAST_CLAUSES: u8 = 1;
 const MOST_CLAUSES: u8 = 16;
 const REGISTERS: usize = 4;
 
@@ -238,7 +240,7 @@ fn read_goal(
     variables: usize,
 ) -> Result<Goal, Refusal> {
     let flag = reader.ranged_byte(5, |flag| flag <= 1)?;
-    let count = reader.ranged_byte(5, |k| k <= MOST_CLAUSES)?;
+    let count = reader.ranged_byte(5, |k| (LEAST_CLAUSES..=MOST_CLAUSES).contains(&k))?;
     let mut clauses = Vec::new();
     for _ in 0..count {
         let (offset, bytes) = reader.quad()?;

@@ -2,7 +2,8 @@
 
 use crate::job::decode;
 use crate::listed::{
-    at_the_limit, bench_list, file, settled, with_byte, Program, P1, PSO, SC, TSO,
+    at_the_limit, bench_list, blank_goals, fewest_and_most_clauses, file, settled, with_byte,
+    Program, AT_THE_START, P1, PSO, SC, TSO,
 };
 
 /// What the program under test prints for a case.
@@ -23,6 +24,8 @@ pub fn all() -> Vec<Vec<u8>> {
         clauses(),
         at_limits(),
         bench_list(),
+        blank_goals().into_iter().map(|(job, _)| job).collect(),
+        fewest_and_most_clauses(),
     ];
     groups.concat()
 }
@@ -81,7 +84,7 @@ fn heads() -> Vec<Vec<u8>> {
             cases.push(with_byte(&P1, at, value));
         }
         for memory in [SC, [TSO, 1], [PSO, 1]] {
-            let job = file(memory, &[0], &[vec![]], 0, &[]);
+            let job = file(memory, &[0], &[vec![]], 0, &[AT_THE_START]);
             cases.push(with_byte(&job, 4, value));
             // A later fault, and one that only shows when all before is right.
             cases.push(with_byte(&with_byte(&job, 4, value), 5, 0));
@@ -95,12 +98,14 @@ fn heads() -> Vec<Vec<u8>> {
 fn counts() -> Vec<Vec<u8>> {
     let mut cases = Vec::new();
     for count in 0..=10 {
+        // With one too few the goal is read from a byte earlier, which flag 1 allows, and a byte is left over.
+        let goal = [AT_THE_START];
         cases.extend(lying(
-            &file([TSO, 1], &vec![7; count], &[vec![]], 0, &[]),
+            &file([TSO, 1], &vec![0; count], &[vec![], vec![]], 1, &goal),
             6,
         ));
         cases.extend(lying(
-            &file([PSO, 8], &[0], &vec![vec![]; count], 0, &[]),
+            &file([PSO, 8], &[0], &vec![vec![]; count], 1, &goal),
             5,
         ));
         cases.extend(lying(
@@ -112,16 +117,17 @@ fn counts() -> Vec<Vec<u8>> {
         let program: Program = vec![[6, 0, 0, 0]; count];
         let clauses = vec![[3, 0, 0, 9]; count];
         cases.extend(lying(
-            &file(SC, &[0], &[vec![], program.clone()], 0, &[]),
+            &file(SC, &[0], &[vec![], program.clone()], 0, &[AT_THE_START]),
             9,
         ));
         cases.extend(lying(&file(SC, &[0], &[program], 0, &[[1, 0, 0, 32]]), 8));
         cases.extend(lying(&file(SC, &[0], &[vec![]], 1, &clauses), 10));
     }
     for flag in NEAR {
-        cases.push(file(SC, &[0], &[vec![]], flag, &[]));
+        let job = file(SC, &[0], &[vec![]], flag, &[AT_THE_START]);
+        cases.push(job.clone());
         // With a bad flag the number of clauses isn't judged any more.
-        cases.push(with_byte(&file(SC, &[0], &[vec![]], flag, &[]), 10, 17));
+        cases.push(with_byte(&job, 10, 17));
     }
     cases
 }
@@ -156,7 +162,7 @@ fn among_others(instruction: [u8; 4]) -> Vec<u8> {
     let fence = [6, 0, 0, 0];
     let other = vec![fence; 3];
     let tried = vec![fence, fence, instruction, fence, fence, fence];
-    file([TSO, 2], &[0; 3], &[other, tried], 0, &[])
+    file([TSO, 2], &[0; 3], &[other, tried], 0, &[AT_THE_START])
 }
 
 /// Each kind of clause and each of its operands, among three threads of 1, 3 and 6 places.

@@ -21,6 +21,9 @@ pub const PSO: u8 = 2;
 /// Each model, with capacities at both ends of their range and between.
 pub const MEMORIES: [Memory; 6] = [SC, [TSO, 1], [TSO, 2], [PSO, 1], [PSO, 2], [PSO, 8]];
 
+/// The clause that thread 0 is at place 0: every job may ask for it, and it holds at the start.
+pub const AT_THE_START: [u8; 4] = [1, 0, 0, 0];
+
 /// A job file whose counts and length field are right.
 pub fn file(
     memory: Memory,
@@ -57,8 +60,28 @@ pub fn with_byte(bytes: &[u8], at: usize, value: u8) -> Vec<u8> {
     changed
 }
 
-/// The jobs of P1 to P12, in that order; P11 speaks of no job of its own and takes P10's.
+/// P1's threads under this model, with these bytes for a goal: its flag stands at 27 and K at 28.
+fn p1_with_goal(memory: Memory, goal: &[u8]) -> Vec<u8> {
+    settled([&P1[..3], &memory, &P1[5..27], goal].concat())
+}
+
+/// The jobs of P1 to P12, in that order: those that are accepted, and P12 with either flag.
 pub fn bench_list() -> Vec<Vec<u8>> {
+    let mut jobs = accepted_list();
+    jobs.extend(p12());
+    jobs
+}
+
+/// P12 with flag 0 and with flag 1: its goal is blank, and so it is refused.
+pub fn p12() -> [Vec<u8>; 2] {
+    [0, 1].map(|flag| p1_with_goal([TSO, 1], &[flag, 0]))
+}
+
+/// Number and offset of P12's refusal.
+pub const P12_REFUSAL: [u64; 2] = [5, 28];
+
+/// The jobs of P1 to P11, in that order; P11 speaks of no job of its own and takes P10's.
+pub fn accepted_list() -> Vec<Vec<u8>> {
     let p2 = [&P1[..3], &SC, &P1[5..]].concat();
     let p3 = with_byte(&P1, 27, 1);
     vec![
@@ -73,7 +96,6 @@ pub fn bench_list() -> Vec<Vec<u8>> {
         fenced_store_buffering(),
         two_stores(),
         two_stores(),
-        settled(with_byte(&P1[..29], 28, 0)),
     ]
 }
 
@@ -105,7 +127,7 @@ fn fenced_store_buffering() -> Vec<u8> {
 
 fn two_stores() -> Vec<u8> {
     let program = vec![[5, 0, 0, 1], [5, 0, 0, 2]];
-    file([TSO, 1], &[0], &[program], 0, &[])
+    file([TSO, 1], &[0], &[program], 0, &[AT_THE_START])
 }
 
 /// Jobs of few states whose goals lie some steps away, where they can be reached.
@@ -167,8 +189,11 @@ fn seen_by_two_readers(memory: Memory) -> Vec<u8> {
     file(memory, &[0, 0], &programs, 0, &goal)
 }
 
-/// A job for each way to be refused by a number from 1 to 6, with that number and the offset.
-pub fn refused_jobs() -> Vec<(Vec<u8>, [u64; 2])> {
+/// A job, and the number and offset that it is refused by.
+pub type Refused = (Vec<u8>, [u64; 2]);
+
+/// A job for each way to be refused by a number from 1 to 6, but for blank goals.
+pub fn refused_jobs() -> Vec<Refused> {
     let longer = [&at_the_limit()[..], &[0]].concat();
     vec![
         (vec![], [1, 0]),
@@ -181,8 +206,58 @@ pub fn refused_jobs() -> Vec<(Vec<u8>, [u64; 2])> {
         (with_byte(&P1, 28, 5), [6, 45]),
         (with_byte(&P1, 28, 3), [6, 41]),
         (with_byte(&P1, 41, 4), [5, 41]),
+        (with_clauses([TSO, 1], 17), [5, 28]),
         (longer, [1, 0]),
     ]
+}
+
+/// Each model once.
+const MODELS: [Memory; 3] = [SC, [TSO, 1], [PSO, 2]];
+
+/// K = 0 under each model, alone and with faults before it and behind it: the first one wins.
+pub fn blank_goals() -> Vec<Refused> {
+    let mut jobs = Vec::new();
+    for memory in MODELS {
+        let goal = |bytes: &[u8]| p1_with_goal(memory, bytes);
+        let blank = goal(&[0, 0]);
+        jobs.extend([
+            (blank.clone(), [5, 28]),
+            (goal(&[1, 0]), [5, 28]),
+            // The flag is judged before K.
+            (goal(&[2, 0]), [5, 27]),
+            (goal(&[255, 0]), [5, 27]),
+            // Whether K is there comes before what it holds.
+            (goal(&[]), [6, 27]),
+            (goal(&[0]), [6, 28]),
+            (goal(&[1]), [6, 28]),
+            (goal(&[2]), [5, 27]),
+            // Clauses that K doesn't count would be left over, which comes last.
+            (goal(&[0, 0, 1, 0, 0, 0]), [5, 28]),
+            (goal(&[1, 0, 1, 0, 0, 0]), [5, 28]),
+            (goal(&[0, 0, 0]), [5, 28]),
+            // Faults further in front.
+            (with_byte(&blank, 1, 26), [1, 0]),
+            (with_byte(&blank, 2, 2), [2, 2]),
+            (with_byte(&blank, 5, 0), [3, 5]),
+            (with_byte(&blank, 10, 10), [4, 10]),
+            (with_byte(&blank, 23, 0), [4, 23]),
+        ]);
+    }
+    jobs
+}
+
+/// K at both ends of its range, under each model.
+pub fn fewest_and_most_clauses() -> Vec<Vec<u8>> {
+    let jobs = MODELS
+        .iter()
+        .flat_map(|&memory| [1, 16].map(|count| with_clauses(memory, count)));
+    jobs.collect()
+}
+
+/// P1's threads with so many clauses, which all hold at the start.
+fn with_clauses(memory: Memory, count: u8) -> Vec<u8> {
+    let clauses = AT_THE_START.repeat(usize::from(count));
+    p1_with_goal(memory, &[&[0, count][..], &clauses].concat())
 }
 
 /// A job at every limit: 4 threads of 32 instructions, 8 variables and 16 clauses, in 597 bytes.

@@ -1,6 +1,7 @@
 //! Repeatable random jobs, buffer sizes and schedules for a comparison.
 
 use crate::job::decode;
+use crate::listed::AT_THE_START;
 use crate::machine::{successors, State, SLOT_BYTES};
 use crate::search::search;
 
@@ -163,12 +164,12 @@ pub fn sound_job(random: &mut Random) -> Vec<u8> {
 
 fn sound_draft(random: &mut Random) -> Draft {
     let longest = random.percent(2);
-    let mut draft = goalless_draft(random, longest);
-    add_goal(random, &mut draft, longest);
+    let mut draft = draft_with_any_goal(random, longest);
+    choose_goal(random, &mut draft, longest);
     draft
 }
 
-fn goalless_draft(random: &mut Random, longest: bool) -> Draft {
+fn draft_with_any_goal(random: &mut Random, longest: bool) -> Draft {
     let model = random.below(3) as u8;
     let threads = if longest {
         4
@@ -190,8 +191,9 @@ fn goalless_draft(random: &mut Random, longest: bool) -> Draft {
         initial: (0..variables).map(|_| some_value(random)).collect(),
         programs,
         flag: random.below(2) as u8,
-        clause_count: 0,
-        clauses: Vec::new(),
+        // A job without a goal is refused, so this one stands in until a walk shows a better one.
+        clause_count: 1,
+        clauses: vec![AT_THE_START],
     }
 }
 
@@ -257,7 +259,7 @@ fn sound_instruction(random: &mut Random, count: usize, variables: usize) -> [u8
     }
 }
 
-fn add_goal(random: &mut Random, draft: &mut Draft, longest: bool) {
+fn choose_goal(random: &mut Random, draft: &mut Draft, longest: bool) {
     let state = end_of_walk(random, draft);
     let count = if longest {
         16
@@ -283,16 +285,16 @@ fn add_goal(random: &mut Random, draft: &mut Draft, longest: bool) {
 
 fn some_clause_count(random: &mut Random) -> usize {
     match random.below(20) {
-        0 => 0,
+        0 => 1,
         1 => 16,
-        2 => random.between(0, 16),
+        2 => random.between(1, 16),
         _ => random.between(1, 5),
     }
 }
 
 /// The state some random steps away from the start, often with drained buffers if they must be.
 fn end_of_walk(random: &mut Random, draft: &Draft) -> State {
-    let job = decode(&draft.bytes()).expect("a draft without a goal is sound");
+    let job = decode(&draft.bytes()).expect("a draft with any goal is sound");
     let mut state = State::start(&job);
     for _ in 0..random.between(0, 30) {
         let moves: Vec<State> = successors(&job, &state).into_values().collect();
@@ -332,9 +334,6 @@ fn clause_about(random: &mut Random, state: &State) -> [u8; 4] {
 
 /// Asks for another value, which is often never reached; places stay in their range.
 fn spoil_a_clause(random: &mut Random, clauses: &mut [[u8; 4]]) {
-    if clauses.is_empty() {
-        return;
-    }
     let index = random.below(clauses.len());
     if clauses[index][0] != 1 {
         clauses[index][3] = some_value(random);
@@ -343,9 +342,6 @@ fn spoil_a_clause(random: &mut Random, clauses: &mut [[u8; 4]]) {
 
 /// Adds a second clause about the same thing, sometimes equal and mostly at odds.
 fn contradict_a_clause(random: &mut Random, draft: &Draft, clauses: &mut Vec<[u8; 4]>) {
-    if clauses.is_empty() {
-        return;
-    }
     let mut rival = clauses[random.below(clauses.len())];
     rival[3] = match rival[0] {
         1 => random.between(0, usize::from(draft.programs[usize::from(rival[1])].count)) as u8,

@@ -1,8 +1,9 @@
 //! Cases for replay, and the line that each is answered with.
 
 use crate::listed::{
-    at_the_limit, bench_list, classics, file, refused_jobs, with_byte, Program, MEMORIES, PSO,
-    ROOM_FOR_JOB, SC, TSO,
+    accepted_list, at_the_limit, bench_list, blank_goals, classics, fewest_and_most_clauses, file,
+    p12, refused_jobs, with_byte, Program, Refused, MEMORIES, P12_REFUSAL, PSO, ROOM_FOR_JOB, SC,
+    TSO,
 };
 use crate::random::{damaged_job, found_schedule, replay_schedule, sound_job, Random};
 use crate::replay::replay;
@@ -71,14 +72,16 @@ pub fn all_known() -> Vec<Known> {
         each_flush_step(),
         long_schedules(),
         found(),
-        refused(),
+        with_any_schedule(refused_jobs()),
+        with_any_schedule(blank_goals()),
+        about_the_range_of_k(),
     ];
     groups.concat()
 }
 
 /// The schedules that the bench list names, P11 on each of its jobs.
 fn listed() -> Vec<Known> {
-    let jobs = bench_list();
+    let jobs = accepted_list();
     let [p1, p3, p5, p6, p10] = [0, 2, 4, 5, 9].map(|index| &jobs[index]);
     let mut cases = vec![
         known(p1, &[0, 0, 1, 1], REACHES),
@@ -89,6 +92,8 @@ fn listed() -> Vec<Known> {
         known(p10, &[0, 0], "STUCK 1"),
     ];
     cases.extend(jobs.iter().map(|job| known(job, &[0x24], "STUCK 0")));
+    let refused = refused_line(P12_REFUSAL);
+    cases.extend(p12().iter().map(|job| known(job, &[0x24], &refused)));
     cases
 }
 
@@ -100,7 +105,7 @@ fn goal_at_the_start() -> Vec<Known> {
     for memory in MEMORIES {
         for flag in [0, 1] {
             let job = |clauses: &[[u8; 4]]| file(memory, &[7], &programs, flag, clauses);
-            cases.push(known(&job(&[]), &[], REACHES));
+            cases.push(known(&job(&holds[..1]), &[], REACHES));
             cases.push(known(&job(&holds), &[], REACHES));
             for fails in [[1, 0, 0, 1], [2, 0, 0, 1], [3, 0, 0, 6]] {
                 cases.push(known(&job(&[fails]), &[], FALLS_SHORT));
@@ -120,12 +125,10 @@ fn goal_at_the_start() -> Vec<Known> {
             cases.push(known(&job(&holds), &[0], FALLS_SHORT));
         }
     }
-    cases.extend(
-        bench_list()[..9]
-            .iter()
-            .map(|job| known(job, &[], FALLS_SHORT)),
-    );
-    cases.extend(bench_list()[9..].iter().map(|job| known(job, &[], REACHES)));
+    let listed = accepted_list();
+    let (p1_to_p9, p10_and_p11) = listed.split_at(9);
+    cases.extend(p1_to_p9.iter().map(|job| known(job, &[], FALLS_SHORT)));
+    cases.extend(p10_and_p11.iter().map(|job| known(job, &[], REACHES)));
     cases.push(known(&at_the_limit(), &[], FALLS_SHORT));
     cases
 }
@@ -467,8 +470,10 @@ fn each_next_byte() -> Vec<Case> {
     let programs: Vec<_> = [[0, 1], [7, 6], [3, 3], [5, 0]]
         .map(|[first, second]| vec![[5, 0, first, 1], [5, 0, second, 2]])
         .to_vec();
+    // No thread changes a register, so every schedule that isn't stuck reaches the goal.
+    let goal = [[2, 0, 0, 0]];
     for memory in [SC, [TSO, 1], [PSO, 2]] {
-        let job = file(memory, &[0; 8], &programs, 0, &[]);
+        let job = file(memory, &[0; 8], &programs, 0, &goal);
         for byte in 0..=255 {
             cases.push(case(&job, &[0, 1, 2, 3, byte]));
         }
@@ -476,13 +481,22 @@ fn each_next_byte() -> Vec<Case> {
     cases
 }
 
-/// Each refusal by the job itself, whatever the schedule.
-fn refused() -> Vec<Known> {
+/// Jobs that are refused themselves, whatever the schedule.
+fn with_any_schedule(jobs: Vec<Refused>) -> Vec<Known> {
     let mut cases = Vec::new();
-    for (job, refusal) in refused_jobs() {
+    for (job, refusal) in jobs {
         for schedule in [&[][..], &[0], &[0, 0, 1, 1], &[36], &[255; 300]] {
             cases.push(known(&job, schedule, &refused_line(refusal)));
         }
+    }
+    cases
+}
+
+fn about_the_range_of_k() -> Vec<Known> {
+    let mut cases = Vec::new();
+    for job in fewest_and_most_clauses() {
+        cases.push(known(&job, &[], REACHES));
+        cases.push(known(&job, &[0], FALLS_SHORT));
     }
     cases
 }

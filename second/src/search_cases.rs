@@ -1,6 +1,9 @@
 //! Cases for the search in lent memory, and the two lines that each is answered with.
 
-use crate::listed::{at_the_limit, bench_list, classics, file, refused_jobs, MEMORIES, P1, TSO};
+use crate::listed::{
+    accepted_list, at_the_limit, bench_list, blank_goals, classics, fewest_and_most_clauses, file,
+    p12, refused_jobs, Refused, AT_THE_START, MEMORIES, P1, TSO,
+};
 use crate::machine::SLOT_BYTES;
 use crate::random::{buffer_sizes, sound_job, Random, Sizes};
 use crate::search::search;
@@ -71,7 +74,10 @@ pub fn all() -> Vec<Case> {
         every_room(),
         about_the_count(),
         narrow_buffers(),
-        refused(),
+        with_and_without_room(refused_jobs()),
+        with_and_without_room(blank_goals()),
+        blank_goals_in_small_rooms(),
+        about_the_range_of_k(),
         with_all_the_room(),
         random_jobs(),
     ];
@@ -109,7 +115,10 @@ fn goal_at_the_start() -> Vec<Case> {
     let programs = [vec![[5, 0, 0, 1], [3, 0, 0, 0]]];
     let mut cases = Vec::new();
     for memory in MEMORIES {
-        for clauses in [vec![], vec![[1, 0, 0, 0], [2, 0, 3, 0], [3, 0, 0, 7]]] {
+        for clauses in [
+            vec![AT_THE_START],
+            vec![AT_THE_START, [2, 0, 3, 0], [3, 0, 0, 7]],
+        ] {
             let job = file(memory, &[7], &programs, 1, &clauses);
             cases.extend((0..3).map(|slots| lent(&job, slots, slots)));
         }
@@ -120,7 +129,7 @@ fn goal_at_the_start() -> Vec<Case> {
 /// Every room up to one more than is needed: where a level ends, within it, and with a goal in the part that fits.
 fn every_room() -> Vec<Case> {
     let mut cases = Vec::new();
-    for job in bench_list() {
+    for job in accepted_list() {
         for slots in 0..=count(&job) + 1 {
             cases.push(lent(&job, slots, slots));
         }
@@ -168,20 +177,39 @@ fn narrow_buffers() -> Vec<Case> {
     cases
 }
 
-/// Each kind of refusal by the job itself, with all the room and with none at all.
-fn refused() -> Vec<Case> {
+/// Jobs that are refused themselves, with all the room and with none at all.
+fn with_and_without_room(jobs: Vec<Refused>) -> Vec<Case> {
     let none = Sizes {
         table: 0,
         links: 0,
         schedule: 0,
     };
-    let cases = refused_jobs().into_iter().flat_map(|(job, _)| {
+    let cases = jobs.into_iter().flat_map(|(job, _)| {
         [ROOM, none].map(|sizes| Case {
             sizes,
             job: job.clone(),
         })
     });
     cases.collect()
+}
+
+/// Room for the one slot that a goal at the start needs, for two, and for none: a blank goal comes before no slot.
+fn blank_goals_in_small_rooms() -> Vec<Case> {
+    let mut cases = Vec::new();
+    for job in p12() {
+        for slots in 0..=2 {
+            cases.extend((0..3).map(|turn| lent(&job, slots, turn)));
+        }
+    }
+    cases
+}
+
+fn about_the_range_of_k() -> Vec<Case> {
+    let mut cases = Vec::new();
+    for job in fewest_and_most_clauses() {
+        cases.extend((0..3).map(|slots| lent(&job, slots, slots)));
+    }
+    cases
 }
 
 fn with_all_the_room() -> Vec<Case> {

@@ -41,14 +41,19 @@ fn p9() -> Vec<u8> {
 }
 
 fn p10() -> Vec<u8> {
-    let program = [[5, 0, 0, 1], [5, 0, 0, 2]];
-    job(tso(1), &[0], &[&program], 0, &[])
+    two_stores([1, 0, 0, 0])
 }
 
-fn p12() -> Vec<u8> {
+fn two_stores(goal: [u8; 4]) -> Vec<u8> {
+    let program = [[5, 0, 0, 1], [5, 0, 0, 2]];
+    job(tso(1), &[0], &[&program], 0, &[goal])
+}
+
+fn p12(flag: u8) -> Vec<u8> {
     let mut bytes = p1();
     bytes.truncate(29);
     bytes[1] = 27;
+    bytes[27] = flag;
     bytes[28] = 0;
     bytes
 }
@@ -68,7 +73,8 @@ fn listed_jobs_are_these() {
         p9(),
         p10(),
         p10(),
-        p12(),
+        p12(0),
+        p12(1),
     ];
     assert_eq!(second::listed::bench_list(), these);
 }
@@ -138,15 +144,30 @@ fn p9_fences_close_store_buffering() {
 #[test]
 fn p10_and_p11_replay_gets_stuck() {
     assert_eq!(replay(&p10(), &[0, 0]), [3, 1, 0, 0]);
-    assert_eq!(replay(&p10(), &[0, 4, 0, 4]), [1, 0, 0, 0]);
+    // With a flush between the stores neither is stuck, and the second one stays.
+    assert_eq!(
+        replay(&two_stores([3, 0, 0, 2]), &[0, 4, 0, 4]),
+        [1, 0, 0, 0]
+    );
     for any_job in [p1(), p2(), p5(), p10()] {
         assert_eq!(replay(&any_job, &[0x24]), [3, 0, 0, 0]);
     }
 }
 
 #[test]
-fn p12_an_empty_goal_holds_at_once() {
-    assert_eq!(bench_lines(&p12()), "REACHABLE 0 1\n\nOPEN 0 0 1\nHOLD\n");
+fn p10_is_searched_for_its_start() {
+    assert_eq!(bench_lines(&p10()), "REACHABLE 0 1\n\nFENCED\nHOLD\n");
+}
+
+#[test]
+fn p12_a_blank_goal_is_refused_with_either_flag() {
+    for flag in [0, 1] {
+        assert_eq!(bench_lines(&p12(flag)), "REFUSED 5 28\nHOLD\n");
+        assert_eq!(run(&p12(flag), 640).answer, [0, 5, 28, 0]);
+        assert_eq!(fences(&p12(flag)), [0, 5, 28, 0]);
+        assert_eq!(replay(&p12(flag), &[]), [0, 5, 28, 0]);
+        assert_eq!(replay(&p12(flag), &[0x24]), [0, 5, 28, 0]);
+    }
 }
 
 #[test]

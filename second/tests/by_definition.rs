@@ -209,7 +209,7 @@ fn fence_run_cases_agree_with_all_walks() {
 fn small_fence_cases() {
     let store = [5, 0, 0, 1];
     let load = [3, 0, 0, 0];
-    let answer = |program: &[[u8; 4]]| fences(&job(SC, &[0], &[&[], program], 0, &[]));
+    let answer = |program: &[[u8; 4]]| fences(&job(SC, &[0], &[&[], program], 0, &ANY_GOAL));
     assert_eq!(answer(&[load, store]), [1, 0, 0, 0]);
     assert_eq!(answer(&[load, store, [9, 0, 0, 0]]), [2, 1, 1, 0]);
     assert_eq!(answer(&[store, [7, 0, 0, 0], load]), [1, 0, 0, 0]);

@@ -60,7 +60,8 @@ fn sound_jobs_reach_the_edges_of_the_ranges() {
         longest = longest.max(bytes.len());
     }
     assert_eq!(lengths, (0..=32).collect());
-    assert_eq!(shapes.len(), 3 + 9 + 4 + 8 + 17 + 2);
+    assert_eq!(shapes.len(), 3 + 9 + 4 + 8 + 16 + 2);
+    assert!(!shapes.contains(&("clauses", 0)));
     assert_eq!(longest, 597);
 }
 
@@ -80,6 +81,32 @@ fn damaged_jobs_meet_every_refusal() {
         "{refusals:?}"
     );
     assert!(sizes.contains(&597) && sizes.contains(&598));
+}
+
+/// A job refused for a blank goal is accepted with one clause in its place; gives K's offset.
+fn blank_goal(bytes: &[u8]) -> Option<usize> {
+    let refusal = decode(bytes).err()?;
+    let front = bytes.get(2..refusal.offset)?;
+    let counted = with_length(&[front, &[1, 3, 0, 0, 0]].concat());
+    let is_blank = refusal.number == 5 && bytes[refusal.offset] == 0 && decode(&counted).is_ok();
+    is_blank.then_some(refusal.offset)
+}
+
+#[test]
+fn damaged_jobs_meet_blank_goals_of_each_kind() {
+    let mut random = Random::new(9);
+    let mut kinds = BTreeSet::new();
+    for _ in 0..20_000 {
+        let bytes = damaged_job(&mut random);
+        if let Some(at) = blank_goal(&bytes) {
+            kinds.insert((bytes[at - 1], bytes.len() > at + 1));
+        }
+    }
+    // Both flags, with clauses behind and with none.
+    assert_eq!(
+        kinds,
+        BTreeSet::from([(0, false), (0, true), (1, false), (1, true)])
+    );
 }
 
 #[test]

@@ -1,4 +1,4 @@
-//! The jobs that a person can try: the bench list as 01 gives it, and that the classics are not empty shells.
+//! The jobs that a person can try: the bench list as 01 and request 8 give it, and that the classics are not empty shells.
 
 use second::job::{decode, Clause, Instruction, Job};
 use second::job_folder::check;

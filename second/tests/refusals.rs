@@ -2,7 +2,8 @@
 
 mod common;
 use common::*;
-use second::{decode, Refusal};
+use second::listed::{blank_goals, fewest_and_most_clauses};
+use second::{decode, fences, replay, Refusal};
 
 fn refused(bytes: &[u8]) -> Option<(u8, usize)> {
     decode(bytes)
@@ -12,7 +13,7 @@ fn refused(bytes: &[u8]) -> Option<(u8, usize)> {
 
 /// One thread with one instruction, two variables; the instruction begins at 10.
 fn with_instruction(instruction: [u8; 4]) -> Option<(u8, usize)> {
-    refused(&job(SC, &[0, 0], &[&[instruction]], 0, &[]))
+    refused(&job(SC, &[0, 0], &[&[instruction]], 0, &ANY_GOAL))
 }
 
 /// Two threads of one and no instructions, two variables; the clause begins at 17.
@@ -89,15 +90,10 @@ fn header_ranges() {
 #[test]
 fn program_lengths() {
     let fence = [6, 0, 0, 0];
-    assert_eq!(refused(&job(SC, &[0], &[&[fence; 32]], 0, &[])), None);
-    assert_eq!(
-        refused(&job(SC, &[0], &[&[fence; 33]], 0, &[])),
-        Some((4, 8))
-    );
-    assert_eq!(
-        refused(&job(SC, &[0], &[&[fence; 2], &[fence; 33]], 0, &[])),
-        Some((4, 17))
-    );
+    let with_programs = |programs: &[&[[u8; 4]]]| refused(&job(SC, &[0], programs, 0, &ANY_GOAL));
+    assert_eq!(with_programs(&[&[fence; 32]]), None);
+    assert_eq!(with_programs(&[&[fence; 33]]), Some((4, 8)));
+    assert_eq!(with_programs(&[&[fence; 2], &[fence; 33]]), Some((4, 17)));
 }
 
 #[test]
@@ -152,18 +148,97 @@ fn clauses() {
     }
 }
 
+/// The flag stands at 9 and K at 10; there may be more clauses than K says, or fewer.
+fn with_goal(flag: u8, count: u8, clauses: usize) -> Vec<u8> {
+    let mut bytes = job(SC, &[0], &[&[]], flag, &vec![[3, 0, 0, 0]; clauses]);
+    bytes[10] = count;
+    bytes
+}
+
 #[test]
 fn goal_flag_and_count() {
-    let goal = |flag, count: u8, clauses: usize| {
-        let mut bytes = job(SC, &[0], &[&[]], flag, &vec![[3, 0, 0, 0]; clauses]);
-        bytes[10] = count;
-        refused(&bytes)
-    };
-    assert_eq!(goal(0, 0, 0), None);
-    assert_eq!(goal(1, 16, 16), None);
+    let goal = |flag, count, clauses| refused(&with_goal(flag, count, clauses));
+    for count in 1..=16 {
+        assert_eq!(goal(0, count, usize::from(count)), None);
+        assert_eq!(goal(1, count, usize::from(count)), None);
+    }
     assert_eq!(goal(2, 17, 17), Some((5, 9)));
     assert_eq!(goal(0, 17, 17), Some((5, 10)));
     assert_eq!(goal(0, 17, 0), Some((5, 10)));
     assert_eq!(goal(0, 2, 1), Some((6, 15)));
     assert_eq!(goal(0, 1, 2), Some((6, 15)));
+}
+
+#[test]
+fn a_blank_goal_is_refused_whatever_stands_behind_it() {
+    for clauses in [0, 1, 2, 16, 17] {
+        assert_eq!(refused(&with_goal(0, 0, clauses)), Some((5, 10)));
+        assert_eq!(refused(&with_goal(1, 0, clauses)), Some((5, 10)));
+    }
+    let mut one_byte_more = with_goal(0, 0, 0)[2..].to_vec();
+    one_byte_more.push(0);
+    assert_eq!(refused(&with_length(&one_byte_more)), Some((5, 10)));
+}
+
+#[test]
+fn the_flag_is_judged_before_a_blank_goal() {
+    for flag in 2..=255 {
+        assert_eq!(refused(&with_goal(flag, 0, 0)), Some((5, 9)));
+        assert_eq!(refused(&with_goal(flag, 0, 1)), Some((5, 9)));
+    }
+}
+
+#[test]
+fn whether_k_is_there_is_judged_before_what_it_holds() {
+    let cut = |flag, count: usize| refused(&with_length(&with_goal(flag, 0, 0)[2..count]));
+    for flag in [0, 1] {
+        assert_eq!(cut(flag, 11), Some((5, 10)));
+        assert_eq!(cut(flag, 10), Some((6, 10)));
+        assert_eq!(cut(flag, 9), Some((6, 9)));
+    }
+    assert_eq!(cut(2, 10), Some((5, 9)));
+}
+
+#[test]
+fn earlier_faults_win_over_a_blank_goal() {
+    let with_blank_goal = |index: usize, value: u8| {
+        let mut bytes = with_length(&p1()[2..29]);
+        bytes[28] = 0;
+        bytes[index] = value;
+        refused(&bytes)
+    };
+    assert_eq!(with_blank_goal(28, 0), Some((5, 28)));
+    assert_eq!(with_blank_goal(1, 28), Some((1, 0)));
+    assert_eq!(with_blank_goal(2, 2), Some((2, 2)));
+    for header in 3..=6 {
+        assert_eq!(with_blank_goal(header, 255), Some((3, header)));
+    }
+    for (fault, begins) in [(9, 9), (10, 10), (17, 14), (18, 18), (26, 23)] {
+        assert_eq!(with_blank_goal(fault, 255), Some((4, begins)));
+    }
+}
+
+#[test]
+fn blank_goals_are_refused_alike_and_nothing_is_written() {
+    for (bytes, [number, offset]) in blank_goals() {
+        let refusal = [0, number, offset, 0];
+        for slots in [0, 1, 640] {
+            let run = run(&bytes, slots);
+            assert_eq!(run.answer, refusal, "{bytes:?} in {slots} slots");
+            assert!(run.untouched_from(0, 0), "{bytes:?} in {slots} slots");
+        }
+        for schedule in [&[][..], &[0], &[36]] {
+            assert_eq!(replay(&bytes, schedule), refusal, "{bytes:?}");
+        }
+        assert_eq!(fences(&bytes), refusal, "{bytes:?}");
+    }
+}
+
+#[test]
+fn one_clause_and_sixteen_are_searched_replayed_and_checked() {
+    for bytes in fewest_and_most_clauses() {
+        assert_eq!(run(&bytes, 1).answer, [1, 0, 1, 0], "{bytes:?}");
+        assert_eq!(replay(&bytes, &[]), [1, 0, 0, 0], "{bytes:?}");
+        assert_eq!(fences(&bytes), [2, 0, 0, 1], "{bytes:?}");
+    }
 }

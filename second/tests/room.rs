@@ -19,6 +19,8 @@ fn refusal_7_comes_last() {
     assert_eq!(run(&bytes, 0).answer, [0, 1, 0, 0]);
     bytes[1] += 1;
     assert_eq!(run(&bytes, 0).answer, [0, 6, 45, 0]);
+    bytes[28] = 0;
+    assert_eq!(run(&bytes, 0).answer, [0, 5, 28, 0]);
 }
 
 #[test]

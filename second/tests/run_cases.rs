@@ -1,8 +1,8 @@
 //! The run cases: lines that a person says, and that every kind of case is among them.
 
 use second::job::Model;
-use second::listed::ROOM_FOR_JOB;
-use second::{decode, fence_cases, replay_cases};
+use second::listed::{blank_goals, refused_jobs, ROOM_FOR_JOB};
+use second::{decode, fence_cases, job_cases, replay_cases, search_cases};
 use std::collections::{BTreeMap, BTreeSet};
 
 #[test]
@@ -17,6 +17,42 @@ fn replays_answer_as_a_person_says() {
 fn fence_checks_answer_as_a_person_says() {
     for (job, line) in fence_cases::all_known() {
         assert_eq!(fence_cases::line(&job), line, "{job:?}");
+    }
+}
+
+/// The line for memory that nothing was written to, worked out from its first contents.
+const UNTOUCHED: &str = "SUMS 101856759 3514663550 1007328511\n";
+
+#[test]
+fn refused_jobs_are_decoded_and_searched_as_a_person_says() {
+    let cases = search_cases::all();
+    for (job, [number, offset]) in [refused_jobs(), blank_goals()].concat() {
+        let line = format!("REFUSED {number} {offset}\n");
+        assert_eq!(job_cases::line(&job), line, "{job:?}");
+        let rooms: Vec<_> = cases.iter().filter(|case| case.job == job).collect();
+        assert!(rooms.iter().any(|case| case.sizes.table == 0), "{job:?}");
+        assert!(rooms.iter().any(|case| case.sizes.table > 0), "{job:?}");
+        for case in rooms {
+            let lines = search_cases::lines(case);
+            assert_eq!(lines, format!("{line}{UNTOUCHED}"), "{job:?}");
+        }
+    }
+}
+
+#[test]
+fn blank_goals_are_among_the_cases_of_all_four() {
+    let searched = search_cases::all().into_iter().map(|case| case.job);
+    let replayed = replay_cases::all().into_iter().map(|case| case.job);
+    let all = [
+        job_cases::all(),
+        searched.collect(),
+        replayed.collect(),
+        fence_cases::all(),
+    ];
+    for jobs in all {
+        for (blank, _) in blank_goals() {
+            assert!(jobs.contains(&blank), "{blank:?}");
+        }
     }
 }
 

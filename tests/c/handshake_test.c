@@ -22,11 +22,11 @@ static int checks = 0;
 static const uint8_t P1[] = {0x00, 0x2B, 0x01, 0x01, 0x01, 0x02, 0x02, 0x00, 0x00, 0x02, 0x05, 0x00, 0x00, 0x01, 0x03,
                              0x00, 0x01, 0x00, 0x02, 0x05, 0x00, 0x01, 0x01, 0x03, 0x00, 0x00, 0x00, 0x00, 0x04, 0x01,
                              0x00, 0x00, 0x02, 0x01, 0x01, 0x00, 0x02, 0x02, 0x00, 0x00, 0x00, 0x02, 0x01, 0x00, 0x00};
-enum { MODEL = 3, CAPACITY = 4, FLAG = 27 };
+enum { MODEL = 3, CAPACITY = 4, FLAG = 27, K = 28 };
 
-/* P10: TSO, C 1, one thread with x = 1 and x = 2; any goal. */
-static const uint8_t P10[] = {0x00, 0x11, 0x01, 0x01, 0x01, 0x01, 0x01, 0x00, 0x02, 0x05,
-                              0x00, 0x00, 0x01, 0x05, 0x00, 0x00, 0x02, 0x00, 0x00};
+/* P10: TSO, C 1, one thread with x = 1 and x = 2; goal place 0. */
+static const uint8_t P10[] = {0x00, 0x15, 0x01, 0x01, 0x01, 0x01, 0x01, 0x00, 0x02, 0x05, 0x00, 0x00,
+                              0x01, 0x05, 0x00, 0x00, 0x02, 0x00, 0x01, 0x01, 0x00, 0x00, 0x00};
 
 /* P9: P1 with FENCE between store and load, goal places 3. */
 static const uint8_t P9[] = {0x00, 0x33, 0x01, 0x01, 0x01, 0x02, 0x02, 0x00, 0x00, 0x03, 0x05, 0x00, 0x00, 0x01, 0x06, 0x00, 0x00, 0x00,
@@ -255,6 +255,28 @@ static void refusals(void) {
     refused(job, sizeof job, 5, FLAG);
 }
 
+/* A blank goal: P12, which is P1 up to K with K 0, whatever the flag. A bad flag and a missing K are judged before it, bytes behind it after it. */
+static void blank_goals(void) {
+    uint8_t job[sizeof P1];
+    uint64_t answer[4];
+    memcpy(job, P1, sizeof P1);
+    job[K] = 0;
+    refused(job, sizeof job, 5, K);
+    job[1] = K + 1 - 2;
+    refused(job, K + 1, 5, K);
+    Lent m = lend(0, 0, 0);
+    search(job, K + 1, &m, answer);
+    CHECK(answer_is(answer, 0, 5, K, 0));
+    give_back(m);
+    job[FLAG] = 1;
+    refused(job, K + 1, 5, K);
+    job[FLAG] = 2;
+    refused(job, K + 1, 5, FLAG);
+    job[FLAG] = 0;
+    job[1] = K - 2;
+    refused(job, K, 6, K);
+}
+
 /* Nothing lent: refusal 7 for whichever buffer is empty, and 1 to 6 before it. NULL stands for an empty buffer. */
 static void empty_buffers(void) {
     static const uint8_t version[] = {0x00, 0x01, 0x02};
@@ -291,6 +313,7 @@ int main(void) {
         replays();
         fence_checks();
         refusals();
+        blank_goals();
         empty_buffers();
     }
     printf("%d checks hold\n", checks);

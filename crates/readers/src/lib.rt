@@ -35,7 +35,7 @@ pub const HEAD_OUT_OF_RANGE: u8 = 3;
 // "n above 32 (offset of n), or an instruction with a bad op, operand or zero byte"
 pub const THREAD_BAD: u8 = 4;
 
-// "flag not 0 or 1, K above 16, or a bad clause"
+// "flag not 0 or 1, K above 16, or a bad clause"; request 8: "K = 0 is refusal 5"
 pub const GOAL_BAD: u8 = 5;
 
 // "a field, instruction or clause isn't wholly there, or bytes are left over"

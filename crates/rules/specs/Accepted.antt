@@ -189,6 +189,7 @@ module _ (bytes : List ℕ) (small : All (λ k. k < byte-values) bytes) where
         initial = initial-is .1;
         lengths = all-imp _ _ (λ code h. h .0) threads (threads-are .1);
         instructions = rw (initial-is .0) (all-imp _ _ (λ code h. h .1) threads (threads-are .1));
+        clauses-least = omega arith;
         clauses-most = omega arith;
         clauses = rw (initial-is .0) (clauses-are .1);
       })

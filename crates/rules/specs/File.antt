@@ -89,7 +89,7 @@ instruction-of vars n op a b c =
 unfoldable pub flag-of : ℕ → Option Bool
 flag-of k = getD (some false ∷ some true ∷ []) k none
 
--- K, the number of clauses
+-- K, the number of clauses. Request 8: "K = 0 is refusal 5 at K's offset, whatever the flag."
 abbrev pub clause-count-of : ℕ → Option ℕ
 clause-count-of = in-range fewest-clauses most-clauses
 

@@ -15,6 +15,7 @@ pub mod Sound
 pub mod Onward
 pub mod FenceCheck
 pub mod Accepted
+pub mod Asked
 pub mod Keeps
 pub mod SlotLaws
 pub mod Jobs

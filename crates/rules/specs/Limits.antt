@@ -1,4 +1,4 @@
--- The numbers of 01 that later requests move, each named once.
+-- The numbers of 01, as far as requests move them, each named once.
 use Prim.Native.Nat.{ℕ, _+_, _*_}
 
 -- "T threads (1 to 4), V shared variables (1 to 8), 4 registers a thread, all values 0 to 255"
@@ -27,9 +27,9 @@ longest-thread = 32
 abbrev pub most-pending : ℕ
 most-pending = 8
 
--- "K at most 16": 0 to 16
+-- K is 1 to 16: "K at most 16"; request 8, "A blank goal must be refused", in place of 01's "K = 0 is allowed"
 abbrev pub fewest-clauses : ℕ
-fewest-clauses = 0
+fewest-clauses = 1
 
 abbrev pub most-clauses : ℕ
 most-clauses = 16

@@ -1,5 +1,5 @@
 -- What 01's own list leaves open: rows beyond it, each under the rule that it pins, and single worked values. The counts and schedules were
--- worked by a checker written apart. `Worked` has the list of 01, and that every row of both holds.
+-- worked by a checker written apart. `Worked` has the list of 01, P12 as request 8 has it, and that every row of both holds.
 use mathlib.Core.Path.{_≡_, refl}
 use mathlib.Core.List.{List, [], _∷_, _++_}
 use Prim.Native.Nat.{ℕ, _+_, _^_}
@@ -9,7 +9,7 @@ use Rattle.rules.specs.Limits.{longest-file, slot-size, step-bound, most
 use Rattle.rules.specs.Slot.{pair-bytes, buffer-bytes, buffers-bytes, slot-bytes}
 use Rattle.rules.specs.State.{State, register}
 use Rattle.rules.specs.Fences.{fenced, open-at}
-use Rattle.rules.specs.Jobs.{p1, p2, p4, p5, p6, p9, p10, p9-sc, p9-sc-drained, p2-drained, no-instruction, waits-apart, three-to-one, own-newest, fence-waits, exchange, jump-over, either-order, oldest-first, stored-register}
+use Rattle.rules.specs.Jobs.{p1, p2, p3, p4, p5, p6, p9, p10, p12, p9-sc, p9-sc-drained, p2-drained, no-instruction, waits-apart, three-to-one, own-newest, fence-waits, exchange, jump-over, either-order, oldest-first, stored-register}
 use Rattle.rules.specs.Jobs.{exchange-between, ends-and-moves, back-around, past-a-load, next-of-two, over-a-fence}
 use Rattle.rules.specs.Jobs.{in-memory, other-registers, widest, thirty-two, fullest, too-long, cut, cut-unknown, left-over}
 use Rattle.rules.specs.Jobs.{two-lengths, lengths-turned, nine-stores, behind-a-jump, two-stores-open, two-threads-open, last-thread-open, last-of-all, third-drains, highest-values, round-to-zero}
@@ -127,6 +127,8 @@ pins =
     ∷ case 640 highest-values (search-reaches 3 (0x00 ∷ 0x00 ∷ []))
     -- JEQ to 0, not taken; registers 1 and 3; JMP passed over
     ∷ case 640 round-to-zero (search-reaches 9 (0x00 ∷ 0x00 ∷ 0x00 ∷ 0x00 ∷ 0x00 ∷ 0x00 ∷ 0x00 ∷ 0x00 ∷ []))
+    -- a goal that holds at the start: 0 steps, 1 state, though there are steps to take
+    ∷ case 1 p10 (search-reaches 1 [])
     -- the flag asks for every buffer: thread 2's
     ∷ case 640 third-drains (search-reaches 3 (0x02 ∷ 0x14 ∷ []))
     -- replay falls short by the state at the end
@@ -327,8 +329,20 @@ pins =
     ∷ case 640 (set p1 27 0xFF) (refuses 5 27)
     -- the flag is judged before K
     ∷ case 640 (set (set p1 27 0x02) 28 0x11) (refuses 5 27)
+    -- before a blank goal
+    ∷ case 640 (set p12 27 0x02) (refuses 5 27)
+    -- and before a K that is not there
+    ∷ case 640 (set (set (take 28 p1) 1 26) 27 0x02) (refuses 5 27)
     -- K to 16
     ∷ case 640 (set p1 28 0x11) (refuses 5 28)
+    -- a K of 255 is none
+    ∷ case 640 (set p1 28 0xFF) (refuses 5 28)
+    -- K from 1: a blank goal is refused before the bytes that are then left over
+    ∷ case 640 (set p1 28 0x00) (refuses 5 28)
+    -- with flag 1 too
+    ∷ case 640 (set p3 28 0x00) (refuses 5 28)
+    -- wherever K stands: SC, one thread of no instructions
+    ∷ case 640 (set no-instruction 10 0x00) (refuses 5 10)
     -- clause kind 4 is none
     ∷ case 640 (set p1 29 0x04) (refuses 5 29)
     -- clause kind 0 is none
@@ -377,6 +391,10 @@ pins =
     ∷ case 640 (set (take 27 p1) 1 25) (refuses 6 27)
     -- K is not there
     ∷ case 640 (set (take 28 p1) 1 26) (refuses 6 28)
+    -- with flag 1 too
+    ∷ case 640 (set (take 28 p3) 1 26) (refuses 6 28)
+    -- no clause is there, though K says so
+    ∷ case 640 (set (take 29 p1) 1 27) (refuses 6 29)
     -- a clause cut off
     ∷ case 640 (set (take 43 p1) 1 41) (refuses 6 41)
     -- a clause cut off is refused as such, whatever its kind

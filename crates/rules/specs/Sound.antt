@@ -4,7 +4,7 @@ use mathlib.Core.List.{List, []}
 use Prim.Native.Nat.{ℕ, _≤_, _<_}
 use lib.ListN.{length, getD}
 use Rattle.reach.specs.Lists.{All, Pairwise}
-use Rattle.rules.specs.Limits.{most-threads, most-variables, registers-each, all-registers, values, longest-thread, most-pending, most-clauses}
+use Rattle.rules.specs.Limits.{most-threads, most-variables, registers-each, all-registers, values, longest-thread, most-pending, fewest-clauses, most-clauses}
 use Rattle.rules.specs.State.{Pending, State, place, register, variable, buffer}
 use Rattle.rules.specs.Job.{Job}
 use Rattle.rules.specs.declared.Model.{Model}
@@ -52,6 +52,7 @@ pub record JobIn (j : Job) : Type 0 where
   pub initial : All (λ k. k < values) (j .initial)
   pub lengths : All (λ code. length code ≤ longest-thread) (j .threads)
   pub instructions : All (λ code. All (InstrIn (length (j .initial)) (length code)) code) (j .threads)
+  pub clauses-least : fewest-clauses ≤ length (j .clauses)
   pub clauses-most : length (j .clauses) ≤ most-clauses
   pub clauses : All (ClauseIn (length (j .initial)) (j .threads)) (j .clauses)
 

@@ -20,8 +20,8 @@ pub const LONGEST_THREAD: u8 = 32;
 // "TSO (model 1, C is 1 to 8)", "PSO (model 2, C is 1 to 8)"
 pub const MOST_PENDING: u8 = 8;
 
-// "K at most 16": 0 to 16
-pub const FEWEST_CLAUSES: u8 = 0;
+// K is 1 to 16: "K at most 16"; request 8, "A blank goal must be refused".
+pub const FEWEST_CLAUSES: u8 = 1;
 
 pub const MOST_CLAUSES: u8 = 16;
 

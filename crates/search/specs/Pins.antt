@@ -8,7 +8,7 @@ use Rattle.rules.specs.Limits.{slot-size}
 use Rattle.rules.specs.Slot.{slot-bytes}
 use Rattle.rules.specs.Machine.{machine}
 use Rattle.rules.specs.File.{accepted, refused, decode, job-of}
-use Rattle.rules.specs.Jobs.{p1}
+use Rattle.rules.specs.Jobs.{p1, p12}
 use Rattle.rules.specs.Claims.{search-reaches, row-accepts, row-refuses}
 use Rattle.rules.specs.Pins.{pins}
 use Rattle.rules.specs.Worked.{table, worked, pinned}
@@ -78,22 +78,24 @@ refused-first bytes number offset is m m′ ws none h =
     let refusal = subst (λ d. SearchOf d m ws m′) is h in
     (refusal .answer, refusal .untouched)
 
--- of each number one, by its row in 01's list or beyond it
+-- of each number one, and a blank goal, by their rows in 01's list or beyond it
 pub seven-is-last :
     RefusedWithNoSlot [] 1 0
     × RefusedWithNoSlot (0x00 ∷ 0x01 ∷ 0x02 ∷ []) 2 2
     × RefusedWithNoSlot (set p1 5 0x05) 3 5
     × RefusedWithNoSlot (set p1 10 0x0A) 4 10
     × RefusedWithNoSlot (set p1 27 0x02) 5 27
+    × RefusedWithNoSlot p12 5 28
     × RefusedWithNoSlot (0x00 ∷ 0x01 ∷ 0x01 ∷ []) 6 3
 unfolding table pins
 seven-is-last = (
-  refused-first [] 1 0 (row-refuses table worked 16 640 [] 1 0 refl),
-  refused-first (0x00 ∷ 0x01 ∷ 0x02 ∷ []) 2 2 (row-refuses table worked 17 640 (0x00 ∷ 0x01 ∷ 0x02 ∷ []) 2 2 refl),
+  refused-first [] 1 0 (row-refuses table worked 17 640 [] 1 0 refl),
+  refused-first (0x00 ∷ 0x01 ∷ 0x02 ∷ []) 2 2 (row-refuses table worked 18 640 (0x00 ∷ 0x01 ∷ 0x02 ∷ []) 2 2 refl),
   refused-first (set p1 5 0x05) 3 5 (row-refuses pins pinned 10 640 (set p1 5 0x05) 3 5 refl),
-  refused-first (set p1 10 0x0A) 4 10 (row-refuses table worked 19 640 (set p1 10 0x0A) 4 10 refl),
+  refused-first (set p1 10 0x0A) 4 10 (row-refuses table worked 20 640 (set p1 10 0x0A) 4 10 refl),
   refused-first (set p1 27 0x02) 5 27 (row-refuses pins pinned 11 640 (set p1 27 0x02) 5 27 refl),
-  refused-first (0x00 ∷ 0x01 ∷ 0x01 ∷ []) 6 3 (row-refuses table worked 18 640 (0x00 ∷ 0x01 ∷ 0x01 ∷ []) 6 3 refl),
+  refused-first p12 5 28 (row-refuses table worked 15 640 p12 5 28 refl),
+  refused-first (0x00 ∷ 0x01 ∷ 0x01 ∷ []) 6 3 (row-refuses table worked 19 640 (0x00 ∷ 0x01 ∷ 0x01 ∷ []) 6 3 refl),
 )
 
 -- the words of each case: its number, and its values in their order

@@ -14,7 +14,7 @@ use Rattle.rules.specs.File.{instruction-of, instruction, thread, flag-of, clau
 use Rattle.rules.specs.File.{accepted, refused, decoded, decode, held-job, job-of}
 use Rattle.rules.specs.Fences.{fenced, open-at}
 use Rattle.rules.specs.declared.Model.the-variants.{Sc, Tso, Pso}
-use Rattle.rules.specs.Jobs.{p1, p2, p4, p6, p7, p9, p9-sc, p9-sc-drained, p2-drained}
+use Rattle.rules.specs.Jobs.{p1, p2, p4, p6, p7, p9, p12, p9-sc, p9-sc-drained, p2-drained}
 use Rattle.rules.specs.Claims.{Case, case, CaseHolds, search-reaches, search-never, search-unknown, fences-say, row-refuses, row-accepts}
 use Rattle.rules.specs.Pins.{pins}
 use Rattle.rules.specs.Worked.{table, worked, pinned}
@@ -73,6 +73,8 @@ verdicts =
     ∷ row 640 (set p1 10 0x0A) hold
     -- nothing was sent: refused
     ∷ row 640 [] hold
+    -- a blank goal: refused
+    ∷ row 640 p12 hold
     -- no slot lent: refused
     ∷ row 0 p9 hold
     -- P9 with a slot too few: unknown
@@ -218,11 +220,15 @@ p7-released =
 
 refused-held : Judged (row 640 (set p1 10 0x0A) hold)
 unfolding table
-refused-held = refused-job (row 640 (set p1 10 0x0A) hold) refl 4 10 (row-refuses table worked 19 640 (set p1 10 0x0A) 4 10 refl)
+refused-held = refused-job (row 640 (set p1 10 0x0A) hold) refl 4 10 (row-refuses table worked 20 640 (set p1 10 0x0A) 4 10 refl)
 
 empty-held : Judged (row 640 [] hold)
 unfolding table
-empty-held = refused-job (row 640 [] hold) refl 1 0 (row-refuses table worked 16 640 [] 1 0 refl)
+empty-held = refused-job (row 640 [] hold) refl 1 0 (row-refuses table worked 17 640 [] 1 0 refl)
+
+blank-held : Judged (row 640 p12 hold)
+unfolding table
+blank-held = refused-job (row 640 p12 hold) refl 5 28 (row-refuses table worked 15 640 p12 5 28 refl)
 
 no-slot-held : Judged (row 0 p9 hold)
 unfolding table
@@ -245,4 +251,4 @@ sc-unknown-held =
 pub verdicts-are : All Judged verdicts
 unfolding verdicts
 verdicts-are =
-    (p1-held, (p2-held, (p9-released, (p9-sc-drained-released, (p9-sc-held, (p2-drained-held, (p4-released, (p4-drained-released, (p4-pso-released, (p7-released, (refused-held, (empty-held, (no-slot-held, (unknown-held, (sc-unknown-held, tt)))))))))))))))
+    (p1-held, (p2-held, (p9-released, (p9-sc-drained-released, (p9-sc-held, (p2-drained-held, (p4-released, (p4-drained-released, (p4-pso-released, (p7-released, (refused-held, (empty-held, (blank-held, (no-slot-held, (unknown-held, (sc-unknown-held, tt))))))))))))))))

@@ -9,6 +9,9 @@ pub const P1: &str = "00 2B 01 01 01 02 02 00 00 02 05 00 00 01 03 00 01 00 02 0
 
 pub const SC: [u8; 2] = [0, 0];
 
+/// Thread 0 is at place 0: a goal for jobs whose goal makes no difference.
+pub const ANY_GOAL: [[u8; 4]; 1] = [[1, 0, 0, 0]];
+
 pub fn tso(capacity: u8) -> [u8; 2] {
     [1, capacity]
 }
