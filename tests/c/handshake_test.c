@@ -267,6 +267,7 @@ static void blank_goals(void) {
     Lent m = lend(0, 0, 0);
     search(job, K + 1, &m, answer);
     CHECK(answer_is(answer, 0, 5, K, 0));
+    CHECK(rest_kept(&m, 0, 0, 0));
     give_back(m);
     job[FLAG] = 1;
     refused(job, K + 1, 5, K);

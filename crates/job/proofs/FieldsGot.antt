@@ -11,7 +11,7 @@ use lib.ListN.{length, getD}
 use Rattle.reach.specs.ListLaws.{at-getD}
 use Rattle.rules.specs.Limits.{file-version, most-threads, most-variables, most-pending, length-size, head-size, item-size}
 use Rattle.rules.specs.Job.{Job}
-use Rattle.rules.specs.File.{Read, _>>=_, got, fault, times, byte, field, in-range, model-of, capacity-of, flag-of, clause-count-of, thread, clause, ended, fields, length-ok, accepted, refused, decoded, decode}
+use Rattle.rules.specs.File.{Read, _>>=_, got, fault, times, byte, field, model-of, capacity-of, flag-of, clause-count-of, thread, clause, ended, fields, length-ok, accepted, refused, decoded, decode}
 use Rattle.rules.specs.declared.Model.{Model}
 use Rattle.rules.specs.declared.Model.the-variants.{Sc, Tso, Pso}
 use Rattle.rules.specs.declared.Instr.{Instr}

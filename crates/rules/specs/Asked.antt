@@ -1,7 +1,7 @@
--- Request 8: "A blank goal must be refused." How a goal is judged where the fields before it are good, and that none without a clause is accepted.
+-- Request 8: "A blank goal must be refused." How a goal is judged once reading has come to it, and that none without a clause is accepted.
 use mathlib.Core.Path.{_≡_, refl}
 use mathlib.Core.Bool.{Bool, true}
-use mathlib.Core.List.{List}
+use mathlib.Core.List.{List, [], _∷_}
 use mathlib.Core.Option.{none, some}
 use Prim.Native.Nat.{ℕ, _+_, _≤_, _<_}
 use borrow.Author.Tests.{le-leb, lt-leb}
@@ -9,98 +9,68 @@ use lib.ListN.{length}
 use Rattle.reach.specs.Lists.{All}
 use Rattle.rules.specs.Limits.{most-threads, most-variables, byte-values, file-version, length-size}
 use Rattle.rules.specs.Job.{Job}
-use Rattle.rules.specs.File.{Read, got, fault, Reader, read-on, _>>=_, done, times, judged, byte, item, field, in-range, model-of, capacity-of}
-use Rattle.rules.specs.File.{flag-of, clause-count-of, thread, clause, ended, fields, length-ok, accepted, refused, decoded, decode}
+use Rattle.rules.specs.File.{got, Reader, read-on, _>>=_, done, times, judged, byte, item, field, in-range, model-of, capacity-of, register-ok, zero-ok}
+use Rattle.rules.specs.File.{instruction-of, instruction, thread, flag-of, clause-count-of, fields, length-ok, accepted, refused, decoded, decode}
 use Rattle.rules.specs.Accepted.{accepted-in}
-use Rattle.rules.specs.declared.Model.{Model}
-use Rattle.rules.specs.declared.Instr.{Instr}
+use Rattle.rules.specs.Jobs.{p12}
+use Rattle.rules.specs.declared.Model.the-variants.{Tso}
+use Rattle.rules.specs.declared.Source.the-variants.{Constant}
+use Rattle.rules.specs.declared.Instr.the-variants.{Load, Store}
 
--- what stands before a goal
-pub record Before : Type 0 where
-  pub version : ℕ
-  pub model : Model
-  pub capacity : ℕ
-  pub vars : ℕ
-  pub initial : List ℕ
-  pub threads : List (List Instr)
+-- reading by r from p on has come, item by item and each of them good, to reading by s from q on
+pub data ComesTo {A : Type 0} (s : Reader A) (q : ℕ) : Reader A → ℕ → Type 1 where
+  here : ComesTo s q s q
+  past : {B : Type 0} (r : Reader B) (f : B → Reader A) (b : B) (p next : ℕ) → r p ≡ got b next → ComesTo s q (f b) next → ComesTo s q (r >>= f) p
 
--- a row of readers may be read in two parts
-in-two : {A B C : Type 0} (r : Reader A) (f : A → Reader C) (g : A → Reader B) (k : B → Reader C) →
-    ((a : A) (p : ℕ) → f a p ≡ (g a >>= k) p) → (at : ℕ) → (r >>= f) at ≡ ((r >>= g) >>= k) at
+-- and then gives what that gives
+come-to : {A : Type 0} (s : Reader A) (q : ℕ) (r : Reader A) (p : ℕ) → ComesTo s q r p → r p ≡ s q
 unfolding _>>=_ read-on
-in-two {A} r f g k same at = go (r at)
-  where
-    go : (x : Read A) → read-on x f ≡ read-on (read-on x g) k
-    go (got a p) = same a p
-    go (fault number offset) = refl
-
-first-done : {A B : Type 0} (a : A) (k : A → Reader B) (at : ℕ) → k a at ≡ (done a >>= k) at
-unfolding _>>=_ read-on done
-first-done a k at = refl
+come-to s q r p here = refl
+come-to s q r p (past first f b at next e c) = rw e (come-to s q (f b) next c)
 
 module _ (bytes : List ℕ) where
-  -- the fields from the version to the last thread
-  unfoldable pub before-goal : Reader Before
-  before-goal =
-      field bytes 2 (in-range file-version file-version) >>= λ version.
-      field bytes 3 model-of >>= λ model.
-      field bytes 3 (capacity-of model) >>= λ capacity.
-      field bytes 3 (in-range 1 most-threads) >>= λ count.
-      field bytes 3 (in-range 1 most-variables) >>= λ vars.
-      times vars (field bytes 6 some) >>= λ initial.
-      times count (thread bytes vars) >>= λ threads.
-      done (record { version = version; model = model; capacity = capacity; vars = vars; initial = initial; threads = threads })
+  -- The length is good, and reading has come to the goal, at G: its flag, then K, and what is read behind them.
+  module _ (length-good : length-ok bytes ≡ true) (G : ℕ) (behind : Bool → ℕ → Reader Job)
+      (comes : ComesTo (field bytes 5 flag-of >>= λ flag. field bytes 5 clause-count-of >>= behind flag) G (fields bytes) length-size) where
+    goal-judged : decode bytes ≡ decoded ((field bytes 5 flag-of >>= λ flag. field bytes 5 clause-count-of >>= behind flag) G)
+    unfolding decode
+    goal-judged = rw (length-good, come-to _ G (fields bytes) length-size comes)
 
-  -- K, the clauses, and no byte more
-  unfoldable from-count : Before → Bool → Reader Job
-  from-count b flag =
-      field bytes 5 clause-count-of >>= λ K.
-      times K (clause bytes (b .vars) (b .threads)) >>= λ clauses.
-      ended bytes
-      (record {
-        version = b .version;
-        model = b .model;
-        capacity = b .capacity;
-        initial = b .initial;
-        threads = b .threads;
-        all-empty = flag;
-        clauses = clauses;
-      })
-
-  fields-are : (at : ℕ) → fields bytes at ≡ (before-goal >>= λ b. field bytes 5 flag-of >>= from-count b) at
-  unfolding fields before-goal from-count
-  fields-are =
-      in-two _ _ _ _ λ version.
-      in-two _ _ _ _ λ model.
-      in-two _ _ _ _ λ capacity.
-      in-two _ _ _ _ λ count.
-      in-two _ _ _ _ λ vars.
-      in-two _ _ _ _ λ initial.
-      in-two _ _ _ _ λ threads p. first-done _ _ p
-
-  -- The length and the fields before the goal are good; the goal begins at G: its flag, and then K.
-  module _ (length-good : length-ok bytes ≡ true) (b : Before) (G : ℕ) (good : before-goal length-size ≡ got b G) where
-    goal-judged : decode bytes ≡ decoded ((field bytes 5 flag-of >>= from-count b) G)
-    unfolding decode _>>=_ read-on
-    goal-judged = rw (length-good, fields-are length-size, good)
-
-    -- "a bad flag is judged before K, at its own offset"
+    -- "then fields from the front, the first fault winning": a bad flag is judged before K
     pub flag-first : G + 1 ≤ length bytes → flag-of (byte bytes G) ≡ none → decode bytes ≡ refused 5 G
     unfolding _>>=_ read-on field item judged decoded
     flag-first there bad = rw (goal-judged, le-leb (G + 1) (length bytes) there, bad)
 
     module _ (there : G + 1 ≤ length bytes) (flag : Bool) (is : flag-of (byte bytes G) ≡ some flag) where
-      -- "whether K's byte is there (6) comes before what it holds (5)"
+      -- "of each item whether it is wholly there before what it holds": K is not there
       pub count-missing : length bytes < G + 1 + 1 → decode bytes ≡ refused 6 (G + 1)
-      unfolding _>>=_ read-on field item judged decoded from-count
+      unfolding _>>=_ read-on field item judged decoded
       count-missing missing = rw (goal-judged, le-leb (G + 1) (length bytes) there, is, lt-leb (G + 1 + 1) (length bytes) missing)
 
       -- "K = 0 is refusal 5 at K's offset, whatever the flag."
       pub blank-refused : G + 1 + 1 ≤ length bytes → byte bytes (G + 1) ≡ 0 → decode bytes ≡ refused 5 (G + 1)
-      unfolding _>>=_ read-on field item judged decoded from-count in-range
+      unfolding _>>=_ read-on field item judged decoded in-range
       blank-refused count-there blank =
           rw (goal-judged, le-leb (G + 1) (length bytes) there, is, le-leb (G + 1 + 1) (length bytes) count-there, blank)
 
   -- a goal of no clause can't be asked: every accepted job has at least one clause
   pub some-clause : All (λ k. k < byte-values) bytes → (j : Job) → decode bytes ≡ accepted j → 1 ≤ length (j .clauses)
   some-clause small j e = accepted-in bytes small j e .clauses-least
+
+-- P12 is such a file: item by item it is read up to its goal, at 27
+p12-reads :
+    (field p12 2 (in-range file-version file-version) 2 ≡ got 1 3)
+    × (field p12 3 model-of 3 ≡ got Tso 4)
+    × (field p12 3 (capacity-of Tso) 4 ≡ got 1 5)
+    × (field p12 3 (in-range 1 most-threads) 5 ≡ got 2 6)
+    × (field p12 3 (in-range 1 most-variables) 6 ≡ got 2 7)
+    × (times 2 (field p12 6 some) 7 ≡ got (0 ∷ 0 ∷ []) 9)
+    × (times 2 (thread p12 2) 9 ≡ got ((Store (Constant 1) 0 ∷ Load 0 1 ∷ []) ∷ (Store (Constant 1) 1 ∷ Load 0 0 ∷ []) ∷ []) 27)
+unfolding p12 read-on _>>=_ done times judged byte item field in-range model-of capacity-of register-ok zero-ok instruction-of instruction thread
+p12-reads = (refl, refl, refl, refl, refl, refl, refl)
+
+pub p12-comes : (behind : Bool → ℕ → Reader Job) × ComesTo (field p12 5 flag-of >>= λ flag. field p12 5 clause-count-of >>= behind flag) 27 (fields p12) length-size
+unfolding fields
+p12-comes =
+    let r = p12-reads in
+    (_, past _ _ _ _ _ (r .0) (past _ _ _ _ _ (r .1) (past _ _ _ _ _ (r .2) (past _ _ _ _ _ (r .3) (past _ _ _ _ _ (r .4) (past _ _ _ _ _ (r .5) (past _ _ _ _ _ (r .6) here)))))))

@@ -1,4 +1,4 @@
--- The numbers of 01, as far as requests move them, each named once.
+-- The numbers of 01, as the requests that have landed have them, each named once.
 use Prim.Native.Nat.{ℕ, _+_, _*_}
 
 -- "T threads (1 to 4), V shared variables (1 to 8), 4 registers a thread, all values 0 to 255"

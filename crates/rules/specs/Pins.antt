@@ -393,7 +393,7 @@ pins =
     ∷ case 640 (set (take 28 p1) 1 26) (refuses 6 28)
     -- with flag 1 too
     ∷ case 640 (set (take 28 p3) 1 26) (refuses 6 28)
-    -- no clause is there, though K says so
+    -- the first clause is not there, though K counts it
     ∷ case 640 (set (take 29 p1) 1 27) (refuses 6 29)
     -- a clause cut off
     ∷ case 640 (set (take 43 p1) 1 41) (refuses 6 41)

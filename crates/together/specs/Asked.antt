@@ -24,7 +24,7 @@ abbrev pub Refusal : List ℕ → Type 0
 Refusal ws = getD ws 0 0 ≡ 0
 
 module _ (bytes : List ℕ) (small : All (λ k. k < byte-values) bytes) where
-  -- what holds of no refused job
+  -- bytes of which something holds that holds of no refusal hold such a job
   asks : (P : Decoded → Type 0) → ((number offset : ℕ) → ¬ (P (refused number offset))) → P (decode bytes) → Asks bytes
   asks P none h = which (decode bytes) refl h
     where
