@@ -1,18 +1,23 @@
-// Decodes each case on standard input and prints a line for it. A case is a count, two bytes big-endian, and then so many bytes.
+// Decodes each case on standard input and prints a line for it. A case is a count, two bytes, and then so many bytes.
+use cases::Number;
 use job::Decoded;
-use libc::STDIN_FILENO;
 use libc::STDOUT_FILENO;
-use rules::BYTE_VALUES;
-ghost use Prim.Native.Nat.{_≤_};
-ghost use lib.ListN.{length};
-
-// A longer case ends the run: no job file is half as long.
-const LONGEST_CASE: usize = 1024;
 
 // A blank, and the number in decimal.
 fn print_number(n: u64) {
     io::write_all(STDOUT_FILENO, b" ");
     io::print_decimal(STDOUT_FILENO, n);
+}
+
+// A refusal as every job prints it.
+fn print_refused(number: u8, offset: usize) {
+    io::write_all(STDOUT_FILENO, b"REFUSED");
+    print_number(number as u64);
+    print_number(offset as u64);
+}
+
+fn end_line() {
+    io::write_all(STDOUT_FILENO, b"\n");
 }
 
 fn print_line(answer: Decoded) {
@@ -21,50 +26,28 @@ fn print_line(answer: Decoded) {
             io::write_all(STDOUT_FILENO, b"ACCEPTED");
         }
         Decoded::Refused(number, offset) => {
-            io::write_all(STDOUT_FILENO, b"REFUSED");
-            print_number(number as u64);
-            print_number(offset as u64);
+            print_refused(number, offset);
         }
     }
-    io::write_all(STDOUT_FILENO, b"\n");
+    end_line();
 }
 
-// The count of the next case, or one that is too large where the input ends.
-fn read_count() -> usize {
-    let mut bytes = [0u8; 2];
-    let got = io::read_full(STDIN_FILENO, &mut bytes);
-    if got < 2 {
-        return LONGEST_CASE + 1;
+// One case, read to the front of the room. Whether it was wholly there, and there was room for it.
+fn run_case(room: &mut [u8]) -> bool {
+    let Number::Is(count) = cases::read_short() else {
+        return false;
+    };
+    let end = cases::read_front(room, count);
+    if end < count {
+        return false;
     }
-    readers::wide(bytes[0]) * BYTE_VALUES + readers::wide(bytes[1])
-}
-
-// Whether all of the case's bytes were there.
-fn read_case(case: &mut [u8]) -> bool {
-    let got = io::read_full(STDIN_FILENO, case);
-    got == case.len()
-}
-
-// One case: it is decoded where it stands, at the front of the room. Whether there was one.
-fn run_case(room: &mut [u8], count: usize) -> bool
-    requires { ⌜ count ≤ length (now room) ⌝ }
-{
-    if read_case(&mut room[0..count]) {
-        print_line(job::decode(&room[0..count]));
-        true
-    } else {
-        false
-    }
+    print_line(job::decode(&room[0..end]));
+    true
 }
 
 fn run_next() -> bool {
-    let mut room = [0u8; LONGEST_CASE];
-    let count = read_count();
-    if count <= LONGEST_CASE {
-        run_case(&mut room, count)
-    } else {
-        false
-    }
+    let mut room = [0u8; cases::JOB_ROOM];
+    run_case(&mut room)
 }
 
 // A proved loop has to end, so it counts its turns down, from a number that no run uses up.

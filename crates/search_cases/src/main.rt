@@ -1,11 +1,11 @@
 // Searches each case on standard input in lent memory of its sizes, and prints the answer and a sum over each whole memory afterwards.
 // A case is the numbers of table bytes, links and schedule bytes to lend, four bytes each, the count of the job's bytes, two bytes,
-// all big-endian, and then the job.
-use libc::STDIN_FILENO;
+// and then the job.
+use cases::Number;
 use libc::STDOUT_FILENO;
 use search::Answer;
 ghost use Prim.Native.Nat.{_<_};
-ghost use Rattle.search_cases.specs.Room.{Within, RoomFor, Fits};
+ghost use Rattle.search_cases.specs.Room.{Within};
 
 // All that there is to lend; a case that asks for more ends the run.
 const TABLE_ROOM: usize = 65536;
@@ -14,19 +14,14 @@ const LINKS_ROOM: usize = 1024;
 
 const SCHEDULE_ROOM: usize = 1024;
 
-const LONGEST_JOB: usize = 1024;
-
-const HEAD_SIZE: usize = 14;
-
 // The largest prime below 2^32.
 const SUM_MODULUS: u64 = 4294967291;
 
-// How much of each memory is lent for a case, and the count of its job's bytes.
+// How much of each memory is lent for a case.
 struct Sizes {
     table: usize,
     links: usize,
     schedule: usize,
-    job: usize,
 }
 
 enum Head {
@@ -34,36 +29,21 @@ enum Head {
     End,
 }
 
-fn wide(x: u8) -> usize
-    ensures { λ r. ⌜ r < 256 ⌝ }
-{
-    x as usize
-}
-
-fn pair(high: u8, low: u8) -> usize
-    ensures { λ r. ⌜ r < 65536 ⌝ }
-{
-    wide(high) * 256 + wide(low)
-}
-
 fn read_head() -> Head {
-    let mut head = [0u8; HEAD_SIZE];
-    let got = io::read_full(STDIN_FILENO, &mut head);
-    if got < HEAD_SIZE {
+    let Number::Is(table) = cases::read_long() else {
         return Head::End;
-    }
+    };
+    let Number::Is(links) = cases::read_long() else {
+        return Head::End;
+    };
+    let Number::Is(schedule) = cases::read_long() else {
+        return Head::End;
+    };
     Head::Case(Sizes {
-        table: pair(head[0], head[1]) * 65536 + pair(head[2], head[3]),
-        links: pair(head[4], head[5]) * 65536 + pair(head[6], head[7]),
-        schedule: pair(head[8], head[9]) * 65536 + pair(head[10], head[11]),
-        job: pair(head[12], head[13]),
+        table,
+        links,
+        schedule,
     })
-}
-
-// Whether all of the job's bytes were there.
-fn read_job(job: &mut [u8]) -> bool {
-    let got = io::read_full(STDIN_FILENO, job);
-    got == job.len()
 }
 
 // A blank, and the number in decimal.
@@ -72,12 +52,21 @@ fn print_number(n: u64) {
     io::print_decimal(STDOUT_FILENO, n);
 }
 
+// A refusal as every job prints it.
+fn print_refused(number: u8, offset: usize) {
+    io::write_all(STDOUT_FILENO, b"REFUSED");
+    print_number(number as u64);
+    print_number(offset as u64);
+}
+
+fn end_line() {
+    io::write_all(STDOUT_FILENO, b"\n");
+}
+
 fn print_answer(answer: Answer) {
     match answer {
         Answer::Refused(number, offset) => {
-            io::write_all(STDOUT_FILENO, b"REFUSED");
-            print_number(number as u64);
-            print_number(offset as u64);
+            print_refused(number, offset);
         }
         Answer::Reachable(distance, states) => {
             io::write_all(STDOUT_FILENO, b"REACHABLE");
@@ -93,7 +82,7 @@ fn print_answer(answer: Answer) {
             print_number(slots as u64);
         }
     }
-    io::write_all(STDOUT_FILENO, b"\n");
+    end_line();
 }
 
 // 7 more, modulo 251: no power of two, so that no two slots near each other hold the same bytes.
@@ -156,7 +145,7 @@ fn print_sums(table: &[u8], links: &[u32], schedule: &[u8]) {
     print_number(sum_of(table));
     print_number(sum_of_links(links));
     print_number(sum_of(schedule));
-    io::write_all(STDOUT_FILENO, b"\n");
+    end_line();
 }
 
 // The search with the first so many of each memory lent; the sums are over all of it, lent or not.
@@ -179,54 +168,37 @@ fn run_search(table: &mut [u8], links: &mut [u32], schedule: &mut [u8], sizes: S
     print_sums(table, links, schedule);
 }
 
-// One case, whose job is read to the front of its room. Whether it was wholly there.
-fn run_case(
-    table: &mut [u8],
-    links: &mut [u32],
-    schedule: &mut [u8],
-    job: &mut [u8],
-    sizes: Sizes,
-) -> bool
-    requires { ⌜ RoomFor sizes (now table) (now links) (now schedule) (now job) ⌝ }
-{
-    let count = sizes.job;
-    if read_job(&mut job[0..count]) {
-        run_search(table, links, schedule, sizes, &job[0..count]);
-        true
-    } else {
-        false
-    }
-}
-
-// One case that asks for no more than there is.
-fn run_sized(sizes: Sizes) -> bool
-    requires { ⌜ Fits sizes ⌝ }
-{
-    let mut table = [0u8; TABLE_ROOM];
-    let mut links = [0u32; LINKS_ROOM];
-    let mut schedule = [0u8; SCHEDULE_ROOM];
-    let mut job = [0u8; LONGEST_JOB];
-    run_case(&mut table, &mut links, &mut schedule, &mut job, sizes)
-}
-
-// One case. Whether there was one, and room for it.
-fn run_next() -> bool {
+// One case, whose job is read to the front of its room. Whether it was wholly there, and asked for no more than there is.
+fn run_case(table: &mut [u8], links: &mut [u32], schedule: &mut [u8], job: &mut [u8]) -> bool {
     let Head::Case(sizes) = read_head() else {
         return false;
     };
-    if sizes.table > TABLE_ROOM {
+    let Number::Is(count) = cases::read_short() else {
+        return false;
+    };
+    let end = cases::read_front(job, count);
+    if end < count {
         return false;
     }
-    if sizes.links > LINKS_ROOM {
+    if sizes.table > table.len() {
         return false;
     }
-    if sizes.schedule > SCHEDULE_ROOM {
+    if sizes.links > links.len() {
         return false;
     }
-    if sizes.job > LONGEST_JOB {
+    if sizes.schedule > schedule.len() {
         return false;
     }
-    run_sized(sizes)
+    run_search(table, links, schedule, sizes, &job[0..end]);
+    true
+}
+
+fn run_next() -> bool {
+    let mut table = [0u8; TABLE_ROOM];
+    let mut links = [0u32; LINKS_ROOM];
+    let mut schedule = [0u8; SCHEDULE_ROOM];
+    let mut job = [0u8; cases::JOB_ROOM];
+    run_case(&mut table, &mut links, &mut schedule, &mut job)
 }
 
 // A proved loop has to end, so it counts its turns down, from a number that no run uses up.

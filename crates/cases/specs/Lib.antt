@@ -1,0 +1,2 @@
+-- What a number of a case can be.
+pub mod Number
