@@ -109,10 +109,10 @@ module _ (code : List Instr) (s : ℕ) where
     pub no-less : m ≤ r
     pub closed : r ≡ m → (p : ℕ) → P p → ClosedAt m p
 
-  -- the set of the places to which walks lead
+  -- the set of the places to which walks lead, complete for the places that hold an instruction: place n holds none, and may have no bit
   pub record Met (m : ℕ) : Type 0 where
     pub sound : Sound m
-    pub complete : (q : ℕ) → q < width → Leads q → Has m q
+    pub complete : (q : ℕ) → q < length code → Leads q → Has m q
 
 -- a walk with one move more
 walk-on : (code : List Instr) (p : ℕ) (between : List ℕ) (q r : ℕ) →
@@ -184,7 +184,7 @@ module _ (code : List Instr) (s : ℕ) where
   all-met fit m r sound g l =
       record {
         sound = g .sound sound;
-        complete = λ q fits w. subst (λ z. Has z q) (sym still) (reached (w .0) s q (inl refl) fits (w .1));
+        complete = λ q held w. subst (λ z. Has z q) (sym still) (reached (w .0) s q (inl refl) (omega (arith, fit, held)) (w .1));
       }
     where
       still : r ≡ m
@@ -231,9 +231,9 @@ MetLoad code m p = (role-at code p ≡ Loads) × Has m p
 
 -- where the store stands, the loads that were met are the open ones
 pub open-of :
-    (code : List Instr) (s : ℕ) → length code ≤ width → role-at code s ≡ Stores → (m r : ℕ) → Met code s m →
+    (code : List Instr) (s : ℕ) → role-at code s ≡ Stores → (m r : ℕ) → Met code s m →
     LeastBelow (MetLoad code m) (length code) r → LeastBelow (OpenIn code s) (length code) r
-open-of code s fit store m r met least =
+open-of code s store m r met least =
     record {
       within = least .within;
       holds =
@@ -241,7 +241,7 @@ open-of code s fit store m r met least =
           let h = least .holds l in
           let w = met .sound r (h .1) in
           record { store = store; load = h .0; between = w .0; walk = w .1 };
-      before = λ i l o. least .before i l (o .load, met .complete i (omega (arith, fit, load-inside o)) (o .between, o .walk));
+      before = λ i l o. least .before i l (o .load, met .complete i (load-inside o) (o .between, o .walk));
     }
 
 -- The least pair of a thread.

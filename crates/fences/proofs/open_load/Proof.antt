@@ -3,7 +3,7 @@ use mathlib.Core.Path.{sym, _∙_}
 use mathlib.Core.List.{[], _∷_}
 use borrow.Author.Needs.{needs}
 use Rattle.rules.specs.declared.Role.the-variants.{Stores}
-use Rattle.fences.specs.Places.{short, none-below, open-of}
+use Rattle.fences.specs.Places.{none-below, open-of}
 use Rattle.fences.proofs.ReadLaws.{other-role}
 use Rattle.fences.proofs.open_load.Statement.{statement}
 use Rattle.fences.proofs.open_load.Tie as tie
@@ -25,7 +25,7 @@ code-length-requires c κs = search needs
 
 returns : tie.Need-returns
 returns c =
-    open-of _ _ (short _ _ (c .before .before .before .before .before .before .pre .in-range)) (sym (c .before .before .before .before .role-at .ensures) ∙ c .before .before .enum-told .given .1) _ _
+    open-of _ _ (sym (c .before .before .before .before .role-at .ensures) ∙ c .before .before .enum-told .given .1) _ _
     (c .before .places-met .ensures) (c .least-load .ensures)
 
 returns-2 : tie.Need-returns-2
