@@ -9,10 +9,10 @@
  * answer is never NULL: it points to four uint64_t, 32 bytes in a row, aligned for uint64_t (to 8 bytes on x86-64), and every call sets
  * all four. A refusal is 0, number, offset, 0, and then no other buffer was written.
  * The numbers, with the offset in the job, counted from 0 (docs/JOBS.md has the fields):
- *   1  fewer than 3 bytes, more than 597, or length wrong: 0
+ *   1  fewer than 3 bytes, more than 1,109, or length wrong: 0
  *   2  version not 1: 2
  *   3  model, C, T or V out of range: that byte
- *   4  n above 32: that n; an instruction with a bad operation, operand or zero byte: its first byte
+ *   4  n above 64: that n; an instruction with a bad operation, operand or zero byte: its first byte
  *   5  flag not 0 or 1, or K, the number of clauses, not 1 to 16: that byte; a bad clause: its first byte
  *   6  a field, instruction or clause isn't wholly there: where it begins; bytes left over: the first of them
  *   7  search only, no slot (N is 0): 0

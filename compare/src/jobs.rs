@@ -1,9 +1,12 @@
 //! Jobs to compare on: the listed ones first, then random ones of many shapes, sound and damaged.
 
 use crate::walk::walk;
+use second::job::MOST_INSTRUCTIONS;
 use second::listed::{
-    at_the_limit, bench_list, file, settled, with_byte, Memory, Program, AT_THE_START, P1, SC,
+    at_the_limit, bench_list, file, settled, with_byte, Memory, Program, AT_THE_START,
+    FURTHEST_PLACE, P1, SC,
 };
+use second::long_threads::MOST_BEFORE;
 use second::machine::State;
 use second::random::{damaged_job, random_bytes, sound_job, Random};
 use second::{decode, Job};
@@ -29,18 +32,23 @@ pub fn job(random: &mut Random, number: u64) -> Vec<u8> {
             damaged(random, job)
         }
         32..=36 => {
-            let job = handshake(random);
+            let job = if random.percent(80) {
+                handshake(random)
+            } else {
+                sequencer(random)
+            };
             damaged(random, job)
         }
-        37..=60 => sound_job(random),
+        37..=54 => sound_job(random),
+        55..=60 => sequencer(random),
         61..=72 => {
             let job = sound_job(random);
-            with_far_goal(random, job)
+            with_far_goal(random, job, FAR)
         }
         73..=84 => handshake(random),
         85..=97 => {
             let job = handshake(random);
-            with_far_goal(random, job)
+            with_far_goal(random, job, FAR)
         }
         _ => full_size(random),
     }
@@ -165,21 +173,107 @@ fn phrase(random: &mut Random, at: u8, variables: usize) -> Program {
     }
 }
 
-/// Four threads of 32 instructions, which is all that a file holds.
+// ---- sequencers: a long thread whose stores, loads and fences stand late ----
+
+/// A long thread that steps through quiet work before it handshakes, alone or beside a short one.
+fn sequencer(random: &mut Random) -> Vec<u8> {
+    let variables = random.between(1, 4);
+    let mut programs = vec![sequencer_program(random, variables)];
+    if random.percent(70) {
+        let short = handshake_program(random, variables, 4);
+        programs.insert(random.below(2), short);
+    }
+    let initial: Vec<u8> = (0..variables).map(|_| random.below(2) as u8).collect();
+    let job = with_any_goal(some_memory(random), &initial, &programs);
+    with_far_goal(random, job, 2 * MOST_INSTRUCTIONS)
+}
+
+fn sequencer_program(random: &mut Random, variables: usize) -> Program {
+    let count = match random.below(8) {
+        0 => MOST_BEFORE + 1,
+        1..=3 => MOST_INSTRUCTIONS,
+        _ => random.between(MOST_BEFORE + 1, MOST_INSTRUCTIONS),
+    };
+    let front = random.between(count / 2, count - LEAST_LATE_PART);
+    let mut program: Program = (0..front).map(|_| quiet_step(random)).collect();
+    let late = late_part(random, front, count, variables);
+    program.extend(late);
+    if random.percent(50) {
+        // Short walks and small rooms get to the late part, too.
+        program[0] = [9, 0, front as u8, 0];
+    }
+    with_ends(program)
+}
+
+const LEAST_LATE_PART: usize = 5;
+
+/// The instructions from `front` on; of one kind, because among all kinds hardly any pair stays closed.
+fn late_part(random: &mut Random, front: usize, count: usize, variables: usize) -> Program {
+    let announce = [5, 0, random.below(variables) as u8, 1];
+    let look = [3, 0, random.below(variables) as u8, 0];
+    let exchange = [7, 1, random.below(variables) as u8, 0];
+    let barrier = random.pick(&[[6, 0, 0, 0], exchange]);
+    let mut late = Program::new();
+    match random.below(6) {
+        0 | 1 => late = [announce, barrier, look].repeat(count),
+        2 => late = [announce, quiet_step(random), look].repeat(count),
+        3 => {
+            while late.len() < count - front {
+                let at = (front + late.len()) as u8;
+                late.extend(phrase(random, at, variables));
+            }
+        }
+        4 => {
+            // Looks before it announces: only what the last place leads back to can be open.
+            late.resize_with(count - front, || quiet_step(random));
+            if random.percent(50) {
+                late[0] = barrier;
+            }
+            late[1] = look;
+            let last = late.len() - 1;
+            late[last - 1] = announce;
+            late[last] = jump_to(random, &[0, front as u8, front as u8 + 1, END]);
+        }
+        _ => {
+            // Leaps over a look to the last place: only from there a look may follow.
+            late.resize_with(count - front, || quiet_step(random));
+            let over = jump_to(random, &[count as u8 - 1]);
+            late[..4].copy_from_slice(&[announce, over, barrier, look]);
+            let back = jump_to(random, &[front as u8 + 3, END]);
+            let last = late.len() - 1;
+            late[last] = random.pick(&[look, back, back, barrier]);
+        }
+    }
+    late.truncate(count - front);
+    late
+}
+
+/// JMP or JEQ to one of these places.
+fn jump_to(random: &mut Random, places: &[u8]) -> [u8; 4] {
+    let place = random.pick(places);
+    random.pick(&[[9, 0, place, 0], [8, 3, place, 1]])
+}
+
+/// A step of the sequence that touches no variable.
+fn quiet_step(random: &mut Random) -> [u8; 4] {
+    [random.pick(&[1, 2]), 3, 0, random.below(3) as u8]
+}
+
+/// Four threads of the most instructions, which is all that a file holds.
 fn full_size(random: &mut Random) -> Vec<u8> {
     let programs: Vec<Program> = (0..4).map(|_| full_program(random)).collect();
     let initial: Vec<u8> = (0..8).map(|_| random.byte()).collect();
     let job = with_any_goal(some_memory(random), &initial, &programs);
-    with_far_goal(random, job)
+    with_far_goal(random, job, FAR)
 }
 
 fn full_program(random: &mut Random) -> Program {
     let mut program = Program::new();
-    while program.len() < 32 {
+    while program.len() < MOST_INSTRUCTIONS {
         let at = program.len() as u8;
         program.extend(phrase(random, at, 8));
     }
-    program.truncate(32);
+    program.truncate(MOST_INSTRUCTIONS);
     with_ends(program)
 }
 
@@ -201,10 +295,13 @@ fn with_near_goal(random: &mut Random, job: Vec<u8>) -> Vec<u8> {
     })
 }
 
+/// The longest walk to a far goal in a job of few steps.
+const FAR: usize = 40;
+
 /// All places and some more of the state at a long walk's end, so that few states are goals.
-fn with_far_goal(random: &mut Random, job: Vec<u8>) -> Vec<u8> {
+fn with_far_goal(random: &mut Random, job: Vec<u8>, most_steps: usize) -> Vec<u8> {
     let more = random.between(0, 12);
-    with_goal_after(random, job, 40, |random, state| {
+    with_goal_after(random, job, most_steps, |random, state| {
         let mut facts = facts(state);
         let mut clauses: Vec<[u8; 4]> = facts.drain(..state.threads.len()).collect();
         while clauses.len() < 16.min(state.threads.len() + more) && !facts.is_empty() {
@@ -282,9 +379,14 @@ fn with_blank_goal(random: &mut Random, mut job: Vec<u8>) -> Vec<u8> {
 // ---- damage ----
 
 /// The numbers at and beside the ends of every range of the file.
-const EDGES: [u8; 19] = [
-    0, 1, 2, 3, 4, 5, 7, 8, 9, 10, 15, 16, 17, 31, 32, 33, 127, 254, 255,
-];
+fn edges() -> Vec<u8> {
+    let about_most_instructions = FURTHEST_PLACE - 1..=FURTHEST_PLACE + 1;
+    [0, 1, 2, 3, 4, 5, 7, 8, 9, 10, 15, 16, 17]
+        .into_iter()
+        .chain(about_most_instructions)
+        .chain([127, 254, 255])
+        .collect()
+}
 
 /// The job with a fault anywhere; the length field is mostly made right again.
 fn damaged(random: &mut Random, mut job: Vec<u8>) -> Vec<u8> {
@@ -294,10 +396,10 @@ fn damaged(random: &mut Random, mut job: Vec<u8>) -> Vec<u8> {
             job[at] ^= 1 << random.below(8);
         }
         1 => job.truncate(random.between(0, job.len())),
-        2 => job.extend(vec![random.pick(&EDGES); random.pick(&[1, 2, 4, 5])]),
+        2 => job.extend(vec![random.pick(&edges()); random.pick(&[1, 2, 4, 5])]),
         _ if !job.is_empty() => {
             let at = random.below(job.len());
-            job[at] = random.pick(&EDGES);
+            job[at] = random.pick(&edges());
         }
         _ => job.push(random.byte()),
     }

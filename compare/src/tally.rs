@@ -5,6 +5,9 @@ use crate::call::{Call, Kind};
 use crate::rooms::{self, Room};
 use crate::schedules::LONG;
 use second::job::{Instruction, Model};
+use second::long_threads::{
+    ends_high, of_fence_check, of_job, HIGH_END, HIGH_GOAL, OF_FENCE_CHECKS, OF_JOBS,
+};
 use second::machine::SLOT_BYTES;
 use second::Job;
 use std::collections::BTreeMap;
@@ -27,9 +30,12 @@ const CAPACITY: &str = "capacities";
 const PROGRAMS: &str = "jobs with";
 const GOALS: &str = "goals";
 const BLANK: &str = "blank goals";
+const LONG_THREADS: &str = "long threads";
+const LONG_THREAD_CHECKS: &str = "long threads, checks";
+const LONG_THREAD_RUNS: &str = "long threads, runs";
 
 /// Every class that is named in the summary, in its order.
-const SECTIONS: [(&str, &[&str]); 18] = [
+const SECTIONS: [(&str, &[&str]); 21] = [
     (JOBS, &["accepted", "refused"]),
     (REFUSED, &["1", "2", "3", "4", "5", "6"]),
     (THREADS, &["1", "2", "3", "4"]),
@@ -42,9 +48,11 @@ const SECTIONS: [(&str, &[&str]); 18] = [
             "a jump to its own place",
             "a jump to place n",
             "a thread of no instructions",
-            "4 threads of 32",
         ],
     ),
+    (LONG_THREADS, &OF_JOBS),
+    (LONG_THREAD_CHECKS, &OF_FENCE_CHECKS),
+    (LONG_THREAD_RUNS, &[HIGH_GOAL, HIGH_END]),
     (
         GOALS,
         &["any buffers", "empty buffers", "1 clause", "16 clauses"],
@@ -161,6 +169,16 @@ impl Tally {
         }
     }
 
+    /// What is new about a job since threads have up to 64 instructions, accepted or refused.
+    pub fn long_threads(&mut self, job: &[u8]) {
+        for class in of_job(job) {
+            self.count(LONG_THREADS, class);
+        }
+        for class in of_fence_check(job) {
+            self.count(LONG_THREAD_CHECKS, class);
+        }
+    }
+
     pub fn accepted_job(&mut self, job: &Job) {
         self.count(JOBS, "accepted");
         self.count(THREADS, NUMBERS[job.programs.len()]);
@@ -192,7 +210,6 @@ impl Tally {
                 }
             }
         }
-        let full = |program: &Vec<Instruction>| program.len() == 32;
         let shapes = [
             ("a jump back", back),
             ("a jump to its own place", own),
@@ -200,10 +217,6 @@ impl Tally {
             (
                 "a thread of no instructions",
                 job.programs.iter().any(Vec::is_empty),
-            ),
-            (
-                "4 threads of 32",
-                job.programs.len() == 4 && job.programs.iter().all(full),
             ),
         ];
         for (shape, _) in shapes.into_iter().filter(|(_, met)| *met) {
@@ -244,6 +257,19 @@ impl Tally {
             Kind::Search => self.search(call.words(), model),
             Kind::Replay => self.replay(call.words(), call.schedule.count()),
             Kind::Fences => self.fences(call.words()),
+        }
+        self.high_end(call);
+    }
+
+    /// A search that finds a way, or a replay, which ends above place 32.
+    fn high_end(&mut self, call: &Call) {
+        let (class, steps) = match (call.kind, call.words()) {
+            (Kind::Search, [1, distance, ..]) => (HIGH_GOAL, distance as usize),
+            (Kind::Replay, [1..=3, ..]) => (HIGH_END, call.schedule.count()),
+            _ => return,
+        };
+        if ends_high(call.job.part(), &call.schedule.part()[..steps]) {
+            self.count(LONG_THREAD_RUNS, class);
         }
     }
 

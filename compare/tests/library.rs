@@ -1,7 +1,9 @@
 //! The library as its user meets it: a job's bytes, lent slices, four words back.
 
 use compare::library::{fences, replay, search};
-use second::listed::{bench_list, settled, with_byte, P1};
+use second::listed::{
+    at_the_limit, bench_list, file, settled, too_long_threads, with_byte, P1, SC,
+};
 use second::machine::SLOT_BYTES;
 
 const NO_LINK: u32 = 4_294_967_295;
@@ -275,4 +277,81 @@ fn flag_and_missing_k_are_judged_before_a_blank_goal() {
         assert_eq!(replay(&job, &[]), refusal, "{goal:?}");
         assert_eq!(fences(&job), refusal, "{goal:?}");
     }
+}
+
+/// One thread of this program and one variable, asked for a place of it.
+fn asking(program: &[[u8; 4]], place: u8) -> Vec<u8> {
+    file(SC, &[0], &[program.to_vec()], 0, &[[1, 0, 0, place]])
+}
+
+#[test]
+fn a_thread_of_64_runs_to_its_end() {
+    let job = asking(&[[2, 0, 0, 1]; 64], 64);
+    // One state a step, and the start.
+    let enough = run(&job, 65);
+    assert_eq!(enough.answer, [1, 64, 65, 0]);
+    assert_eq!(enough.schedule[..64], [0; 64]);
+    for (index, slot) in enough.table.chunks_exact(SLOT_BYTES).enumerate() {
+        assert_eq!((slot[0], slot[4]), (index as u8, index as u8));
+    }
+    assert!(enough.wrote_no_more_than(65, 64));
+    assert_eq!(run(&job, 64).answer, [3, 64, 0, 0]);
+    assert_eq!(replay(&job, &[0; 64]), [1, 0, 0, 0]);
+    assert_eq!(replay(&job, &[0; 63]), [2, 0, 0, 0]);
+    assert_eq!(replay(&job, &[0; 65]), [3, 64, 0, 0]);
+}
+
+#[test]
+fn jumps_and_place_clauses_reach_64_and_not_65() {
+    for jump in [8, 9] {
+        let mut program = [[2, 0, 0, 1]; 64];
+        program[0] = [jump, 0, 64, 0];
+        assert_eq!(replay(&asking(&program, 64), &[0]), [1, 0, 0, 0]);
+        program[0][2] = 65;
+        assert_eq!(replay(&asking(&program, 64), &[0]), [0, 4, 9, 0]);
+    }
+    let beyond = asking(&[[2, 0, 0, 1]; 64], 65);
+    let clause = beyond.len() as u64 - 4;
+    assert_eq!(replay(&beyond, &[]), [0, 5, clause, 0]);
+}
+
+#[test]
+fn a_thread_of_65_is_refused_by_all_three() {
+    for (job, [number, offset]) in too_long_threads() {
+        let refusal = [0, number, offset, 0];
+        let run = run(&job, 9);
+        assert_eq!(run.answer, refusal, "{job:?}");
+        assert!(run.wrote_no_more_than(0, 0));
+        assert_eq!(replay(&job, &[]), refusal, "{job:?}");
+        assert_eq!(fences(&job), refusal, "{job:?}");
+    }
+}
+
+#[test]
+fn the_longest_file_has_1109_bytes() {
+    let longest = at_the_limit();
+    assert_eq!(longest.len(), 1109);
+    assert_eq!(run(&longest, 9).answer, [3, 9, 0, 0]);
+    let one_more = settled([&longest[..], &[0]].concat());
+    assert_eq!(run(&one_more, 9).answer, [0, 1, 0, 0]);
+    assert_eq!(fences(&one_more), [0, 1, 0, 0]);
+}
+
+#[test]
+fn the_fence_check_sees_places_up_to_63() {
+    let [store, load, fence, step] = [[5, 0, 0, 1], [3, 0, 0, 0], [6, 0, 0, 0], [2, 0, 0, 1]];
+    let check = |others: &[(usize, [u8; 4])]| {
+        let mut program = [step; 64];
+        for &(place, instruction) in others {
+            program[place] = instruction;
+        }
+        fences(&asking(&program, 0))
+    };
+    assert_eq!(check(&[(62, store), (63, load)]), [2, 0, 62, 63]);
+    assert_eq!(check(&[(0, store), (63, load)]), [2, 0, 0, 63]);
+    assert_eq!(check(&[(0, store), (62, fence), (63, load)]), [1, 0, 0, 0]);
+    assert_eq!(check(&[(0, load), (63, store)]), [1, 0, 0, 0]);
+    let turned = |place| [(0, load), (62, store), (63, [9, 0, place, 0])];
+    assert_eq!(check(&turned(0)), [2, 0, 62, 0]);
+    assert_eq!(check(&turned(64)), [1, 0, 0, 0]);
 }

@@ -6,9 +6,14 @@ use compare::hold::hold;
 use compare::jobs;
 use compare::run::{run, Plan, Report};
 use second::listed::{with_byte, P1};
+use second::long_threads::{
+    ends_high, of_job, FULL_SIZE, HIGH_END, HIGH_GOAL, LONG_THREAD, OF_FENCE_CHECKS, OF_JOBS,
+    ONE_TOO_MANY,
+};
 use second::machine::SLOT_BYTES;
 use second::random::{Random, Sizes};
 use second::Refusal;
+use std::ops::Range;
 
 /// Answers as the second checker does, and then spoils what it left.
 struct Spoiling<F>(F);
@@ -21,9 +26,13 @@ impl<F: Fn(&mut Call) + Sync> Checker for Spoiling<F> {
 }
 
 fn report(library: &dyn Checker, jobs: u64, threads: usize) -> Report {
+    report_from(library, 0, jobs, threads)
+}
+
+fn report_from(library: &dyn Checker, first: u64, jobs: u64, threads: usize) -> Report {
     let plan = Plan {
         // The first job is by far the slowest, and not needed here.
-        first: jobs::COUNTER + 1,
+        first: jobs::COUNTER + 1 + first,
         jobs,
         seed: 7,
         threads,
@@ -37,9 +46,12 @@ fn first_difference(spoil: impl Fn(&mut Call) + Sync) -> String {
 }
 
 fn first_difference_of(jobs: u64, spoil: impl Fn(&mut Call) + Sync) -> String {
-    let report = report(&Spoiling(spoil), jobs, 1);
-    assert!(report.differences > 0, "nothing was noticed");
-    report.kept[0].text.clone()
+    let liar = Spoiling(spoil);
+    // A part at a time, because most are noticed soon.
+    let mut parts = (0..jobs).step_by(100);
+    let differences =
+        parts.find_map(|first| report_from(&liar, first, 100, 1).kept.into_iter().next());
+    differences.expect("nothing was noticed").text
 }
 
 fn set_answer(call: &mut Call, words: [u64; 4]) {
@@ -194,6 +206,251 @@ fn a_missing_k_taken_for_a_blank_goal() {
             set_answer(call, [0, 5, k, 0]);
         }
     });
+}
+
+/// Jobs enough to meet what is rare even among long threads.
+const FOR_LONG_THREADS: u64 = 2000;
+
+const ADD: [u8; 4] = [2, 0, 0, 0];
+
+/// An accepted job with other instructions; `change` gets each with its place.
+fn with_instructions(job: &[u8], change: impl Fn(usize, [u8; 4]) -> [u8; 4]) -> Vec<u8> {
+    let mut changed = job.to_vec();
+    for (_, instructions) in threads(job) {
+        for (place, at) in instructions.step_by(4).enumerate() {
+            let quad = [job[at], job[at + 1], job[at + 2], job[at + 3]];
+            changed[at..at + 4].copy_from_slice(&change(place, quad));
+        }
+    }
+    changed
+}
+
+/// Where n and the instructions of each thread of an accepted job stand.
+fn threads(job: &[u8]) -> Vec<(usize, Range<usize>)> {
+    let mut at = 7 + usize::from(job[6]);
+    let mut threads = Vec::new();
+    for _ in 0..job[5] {
+        let end = at + 1 + 4 * usize::from(job[at]);
+        threads.push((at, at + 1..end));
+        at = end;
+    }
+    threads
+}
+
+/// A fence check that reads the instructions of an accepted job wrongly.
+fn misreading(change: impl Fn(usize, [u8; 4]) -> [u8; 4] + Sync) -> impl Fn(&mut Call) + Sync {
+    move |call| {
+        if call.kind == Kind::Fences && call.words()[0] != 0 {
+            let read = with_instructions(call.job.part(), &change);
+            set_answer(call, second::fences(&read));
+        }
+    }
+}
+
+fn is_barrier(quad: [u8; 4]) -> bool {
+    matches!(quad[0], 6 | 7)
+}
+
+#[test]
+fn a_fence_check_that_errs_only_above_place_32() {
+    let store = |quad: [u8; 4]| matches!(quad[0], 4 | 5);
+    let load = |quad: [u8; 4]| quad[0] == 3;
+    let jump = |quad: [u8; 4]| matches!(quad[0], 8 | 9);
+    let overlooked: [fn([u8; 4]) -> bool; 4] = [store, load, jump, is_barrier];
+    for is_overlooked in overlooked {
+        first_difference_of(
+            FOR_LONG_THREADS,
+            misreading(move |place, quad| {
+                if place > 32 && is_overlooked(quad) {
+                    ADD
+                } else {
+                    quad
+                }
+            }),
+        );
+    }
+    // A fence seen where there is none.
+    first_difference_of(
+        FOR_LONG_THREADS,
+        misreading(|place, quad| {
+            if place > 32 && quad[0] < 3 {
+                [6, 0, 0, 0]
+            } else {
+                quad
+            }
+        }),
+    );
+}
+
+#[test]
+fn an_open_pair_not_told_above_place_32() {
+    for part in [2, 3] {
+        let text = first_difference_of(FOR_LONG_THREADS, |call| {
+            if call.kind == Kind::Fences && call.words()[0] == 2 && call.words()[part] > 32 {
+                set_answer(call, [1, 0, 0, 0]);
+            }
+        });
+        assert!(
+            text.contains("answer: first difference at 0: library 1, second checker 2"),
+            "{text}"
+        );
+    }
+}
+
+#[test]
+fn a_fence_check_that_errs_only_at_place_63() {
+    for overlooked in [3, 8, 9] {
+        first_difference_of(
+            FOR_LONG_THREADS,
+            misreading(move |place, quad| {
+                if place == 63 && quad[0] == overlooked {
+                    ADD
+                } else {
+                    quad
+                }
+            }),
+        );
+    }
+    // A jump to place 63 that is lost, and one to the end that comes out at place 0, as bit 64 of a word would.
+    for (target, met) in [(63, 64), (64, 0)] {
+        first_difference_of(
+            FOR_LONG_THREADS,
+            misreading(move |_, quad| match quad {
+                [op @ (8 | 9), r, p, k] if p == target => [op, r, met, k],
+                _ => quad,
+            }),
+        );
+    }
+}
+
+#[test]
+fn a_thread_of_65_that_one_of_the_three_accepts() {
+    for kind in [Kind::Search, Kind::Replay, Kind::Fences] {
+        let text = first_difference_of(FOR_LONG_THREADS, |call| {
+            if call.kind == kind && of_job(call.job.part()).contains(&ONE_TOO_MANY) {
+                set_answer(call, [1, 0, u64::from(kind == Kind::Search), 0]);
+            }
+        });
+        assert!(
+            text.contains("answer: first difference at 0: library 1, second checker 0"),
+            "{text}"
+        );
+    }
+}
+
+#[test]
+fn what_is_missing_told_before_a_thread_of_65() {
+    first_difference_of(FOR_LONG_THREADS, |call| {
+        if of_job(call.job.part()).contains(&ONE_TOO_MANY) {
+            let n = call.words()[2];
+            let whole = n as usize + 1 + 4 * 65;
+            if whole > call.job.count() {
+                set_answer(call, [0, 6, n + 1, 0]);
+            }
+        }
+    });
+}
+
+/// A decoder that refuses an accepted job at this offset, if it gives one.
+fn refusing(number: u64, at: impl Fn(&[u8]) -> Option<usize> + Sync) -> impl Fn(&mut Call) + Sync {
+    move |call| {
+        if second::decode(call.job.part()).is_ok() {
+            if let Some(offset) = at(call.job.part()) {
+                set_answer(call, [0, number, offset as u64, 0]);
+            }
+        }
+    }
+}
+
+/// Where the first n of this value stands.
+fn thread_of(length: u8, job: &[u8]) -> Option<usize> {
+    let mut counts = threads(job).into_iter().map(|(n, _)| n);
+    counts.find(|&n| job[n] == length)
+}
+
+#[test]
+fn a_decoder_that_refuses_a_long_thread() {
+    for length in [33, 51, 64] {
+        first_difference_of(
+            FOR_LONG_THREADS,
+            refusing(4, move |job| thread_of(length, job)),
+        );
+    }
+}
+
+#[test]
+fn a_decoder_that_refuses_a_file_over_597_bytes() {
+    first_difference_of(
+        FOR_LONG_THREADS,
+        refusing(1, |job| (job.len() > 597).then_some(0)),
+    );
+}
+
+#[test]
+fn a_decoder_that_refuses_a_jump_to_place_64() {
+    for op in [8, 9] {
+        first_difference_of(
+            FOR_LONG_THREADS,
+            refusing(4, move |job| {
+                let mut instructions = threads(job)
+                    .into_iter()
+                    .flat_map(|(_, bytes)| bytes.step_by(4));
+                instructions.find(|&at| job[at] == op && job[at + 2] == 64)
+            }),
+        );
+    }
+}
+
+#[test]
+fn a_decoder_that_refuses_place_64_in_a_clause() {
+    first_difference_of(
+        FOR_LONG_THREADS,
+        refusing(5, |job| {
+            let first = threads(job).last()?.1.end + 2;
+            let mut clauses = (first..job.len()).step_by(4);
+            clauses.find(|&at| job[at] == 1 && job[at + 3] == 64)
+        }),
+    );
+}
+
+#[test]
+fn a_slot_with_a_wrong_place_above_32() {
+    let misplaced: [fn(u8) -> u8; 4] = [
+        |place| place.min(32),
+        |place| place % 32,
+        |place| place % 64,
+        |place| if place == 63 { 62 } else { place },
+    ];
+    for wrong in misplaced {
+        let text = first_difference_of(FOR_LONG_THREADS, move |call| {
+            if call.kind == Kind::Search {
+                let counted = slots(call) * SLOT_BYTES;
+                let places = call.table.part_mut()[..counted]
+                    .chunks_exact_mut(SLOT_BYTES)
+                    .flat_map(|slot| &mut slot[..4]);
+                for place in places {
+                    if *place > 32 {
+                        *place = wrong(*place);
+                    }
+                }
+            }
+        });
+        assert!(text.contains("table: first difference at"), "{text}");
+    }
+}
+
+#[test]
+fn a_replay_that_errs_only_above_place_32() {
+    for kind in [1, 3] {
+        first_difference_of(FOR_LONG_THREADS, move |call| {
+            if call.kind == Kind::Replay && call.words()[0] == kind {
+                let high = ends_high(call.job.part(), call.schedule.part());
+                if high {
+                    set_answer(call, [2, 0, 0, 0]);
+                }
+            }
+        });
+    }
 }
 
 #[test]
@@ -397,6 +654,34 @@ fn a_run_without_blank_goals_is_said_to_lack_them() {
             "fence checks",
         ]
     );
+}
+
+#[test]
+fn a_run_without_long_threads_is_said_to_lack_them() {
+    // The first eleven are P1 to P11.
+    let lacking = report(&Second, 11, 1).tally.empty_classes();
+    let classes = |section: &str, classes: &[&str]| -> Vec<String> {
+        let named = classes.iter().map(|class| format!("{section}: {class}"));
+        named.collect()
+    };
+    for class in [
+        classes("long threads", &OF_JOBS),
+        classes("long threads, checks", &OF_FENCE_CHECKS),
+        classes("long threads, runs", &[HIGH_GOAL, HIGH_END]),
+    ]
+    .concat()
+    {
+        assert!(lacking.contains(&class), "{class} not in {lacking:?}");
+    }
+}
+
+#[test]
+fn the_longest_of_the_listed_jobs_is_counted_once() {
+    // Behind P1 to P12 and four refused ones.
+    let listed = report(&Second, 18, 1).tally;
+    for (class, count) in [(LONG_THREAD, 1), (FULL_SIZE, 1), (ONE_TOO_MANY, 0)] {
+        assert_eq!(listed.counted("long threads", class), count, "{class}");
+    }
 }
 
 #[test]

@@ -1,10 +1,13 @@
 //! Cases for the fence check, and the line that each is answered with.
 
 use crate::fences::fences;
+use crate::job::MOST_INSTRUCTIONS;
 use crate::listed::{
     accepted_list, at_the_limit, blank_goals, fewest_and_most_clauses, file, p12, refused_jobs,
-    Memory, Program, AT_THE_START, MEMORIES, P12_REFUSAL, PSO, ROOM_FOR_JOB, SC, TSO,
+    too_long_threads, Memory, Program, AT_THE_START, FURTHEST_PLACE, MEMORIES, P12_REFUSAL, PSO,
+    ROOM_FOR_JOB, SC, TSO,
 };
+use crate::long_threads::{of_fence_check, of_job, Counts, MOST_BEFORE, OF_FENCE_CHECKS, OF_JOBS};
 use crate::random::{damaged_job, random_bytes, sound_job, Random};
 
 /// A job, and the line that a person says for it from the paper.
@@ -35,12 +38,22 @@ pub fn all() -> Vec<Vec<u8>> {
     [said, every_small_program(), random_jobs()].concat()
 }
 
+/// How many cases have long threads, by class.
+pub fn counts_of_long_threads() -> Counts {
+    let classes = [&OF_JOBS[..], &OF_FENCE_CHECKS].concat();
+    let met = |job: &Vec<u8>| [of_job(job), of_fence_check(job)].concat();
+    let met: Vec<_> = all().iter().map(met).collect();
+    Counts::new(&classes, &met)
+}
+
 /// The cases whose lines a person can say.
 pub fn all_known() -> Vec<Known> {
     [
         listed(),
         under_each_model(),
         each_fence_between(),
+        of_each_long_length(),
+        at_each_high_place(),
         refused(),
         about_the_range_of_k(),
     ]
@@ -290,56 +303,99 @@ fn of_several_threads() -> Vec<(Threads, String)> {
     ]
 }
 
-/// Threads of 32 instructions, and four of them.
+/// The last place of a thread of the most instructions at which one stands, and the place before it.
+const LAST: usize = MOST_INSTRUCTIONS - 1;
+const LAST_BUT_ONE: usize = LAST - 1;
+
+/// Threads of the most instructions, and four of them.
 fn of_long_threads() -> Vec<(Threads, String)> {
-    let with = |at: usize, instruction| {
-        let mut program = vec![ADD; 32];
-        program[at] = instruction;
-        program
+    let all = |instruction| vec![instruction; MOST_INSTRUCTIONS];
+    let with = |at, instruction| among_adds(MOST_INSTRUCTIONS, &[(at, instruction)]);
+    let pair = |store, load| among_adds(MOST_INSTRUCTIONS, &[(store, STORE), (load, LOAD)]);
+    let [last, last_but_one] = [LAST, LAST_BUT_ONE].map(|place| place as u64);
+    let ending = |end| {
+        let others = [(0, LOAD), (LAST_BUT_ONE, STORE), (LAST, end)];
+        among_adds(MOST_INSTRUCTIONS, &others)
     };
-    let pair = |store: usize, load: usize| {
-        let mut program = with(store, STORE);
-        program[load] = LOAD;
-        program
-    };
-    let mut turned = pair(30, 0);
-    turned[31] = jump(0);
-    let mut to_the_end = pair(30, 0);
-    to_the_end[31] = jump(32);
+    let turned = ending(jump(0));
+    let to_the_end = ending(jump(FURTHEST_PLACE));
+    let backward = pair(LAST, LAST_BUT_ONE);
+    let far_backward = pair(LAST, 0);
     vec![
-        (vec![vec![ADD; 32]; 4], FENCED.to_string()),
-        (vec![vec![jump(32); 32]; 4], FENCED.to_string()),
-        (vec![vec![jump_if(0); 32]; 4], FENCED.to_string()),
-        (vec![with(31, STORE); 4], FENCED.to_string()),
-        (vec![pair(31, 0); 4], FENCED.to_string()),
-        (vec![pair(0, 31)], open(0, 0, 31)),
-        (vec![pair(30, 31)], open(0, 30, 31)),
-        (vec![turned.clone()], open(0, 30, 0)),
+        (vec![all(ADD); 4], FENCED.to_string()),
+        (vec![all(jump(FURTHEST_PLACE)); 4], FENCED.to_string()),
+        (vec![all(jump_if(0)); 4], FENCED.to_string()),
+        (vec![with(LAST, STORE); 4], FENCED.to_string()),
+        (vec![far_backward.clone(); 4], FENCED.to_string()),
+        (vec![pair(0, LAST)], open(0, 0, last)),
+        (vec![pair(LAST_BUT_ONE, LAST)], open(0, last_but_one, last)),
+        (vec![turned.clone()], open(0, last_but_one, 0)),
+        (vec![ending(jump_if(0))], open(0, last_but_one, 0)),
         (vec![to_the_end.clone()], FENCED.to_string()),
-        (vec![jumping_back()], open(0, 30, 0)),
+        (vec![ending(jump_if(FURTHEST_PLACE))], FENCED.to_string()),
+        (vec![jumping_back()], open(0, last_but_one, 0)),
+        (vec![over_the_last(jump(2))], open(0, 0, 2)),
+        (vec![over_the_last(jump_if(2))], open(0, 0, 2)),
+        (vec![over_the_last(FENCE)], FENCED.to_string()),
+        (vec![over_the_last(EXCHANGE)], FENCED.to_string()),
+        (vec![over_the_last(ADD)], FENCED.to_string()),
         (
-            vec![to_the_end, with(0, LOAD), with(31, STORE), turned],
-            open(3, 30, 0),
+            vec![over_the_last(jump(FURTHEST_PLACE))],
+            FENCED.to_string(),
         ),
         (
-            vec![pair(31, 30), pair(31, 30), pair(31, 30), pair(30, 31)],
-            open(3, 30, 31),
+            vec![over_the_last(jump_if(FURTHEST_PLACE))],
+            FENCED.to_string(),
+        ),
+        (vec![over_the_last(jump(LAST as u8))], FENCED.to_string()),
+        (
+            vec![to_the_end, with(0, LOAD), with(LAST, STORE), turned],
+            open(3, last_but_one, 0),
         ),
         (
-            vec![pair(31, 0), pair(31, 0), pair(31, 0), jumping_back()],
-            open(3, 30, 0),
+            vec![
+                backward.clone(),
+                backward.clone(),
+                backward,
+                pair(LAST_BUT_ONE, LAST),
+            ],
+            open(3, last_but_one, last),
+        ),
+        (
+            vec![
+                far_backward.clone(),
+                far_backward.clone(),
+                far_backward,
+                jumping_back(),
+            ],
+            open(3, last_but_one, 0),
         ),
     ]
 }
 
-/// A load at 0, a store at 30, and jumps that lead from it to the load place by place.
+/// A thread of so many ADDs, but for these instructions at their places.
+fn among_adds(count: usize, others: &[(usize, [u8; 4])]) -> Program {
+    let mut program = vec![ADD; count];
+    for &(place, instruction) in others {
+        program[place] = instruction;
+    }
+    program
+}
+
+/// The only way from the store to the load goes over the last place, if that leads back.
+fn over_the_last(last: [u8; 4]) -> Program {
+    let others = [(0, STORE), (1, jump(LAST as u8)), (2, LOAD), (LAST, last)];
+    among_adds(MOST_INSTRUCTIONS, &others)
+}
+
+/// A load first, a store last but one, and jumps that lead from it to the load place by place.
 fn jumping_back() -> Program {
-    let mut program: Program = (0..32)
-        .map(|place: u8| jump(place.saturating_sub(1)))
+    let mut program: Program = (0..FURTHEST_PLACE)
+        .map(|place| jump(place.saturating_sub(1)))
         .collect();
     program[0] = LOAD;
-    program[30] = STORE;
-    program[31] = jump(29);
+    program[LAST_BUT_ONE] = STORE;
+    program[LAST] = jump(LAST_BUT_ONE as u8 - 1);
     program
 }
 
@@ -347,18 +403,110 @@ fn jumping_back() -> Program {
 fn each_fence_between() -> Vec<Known> {
     let mut cases = Vec::new();
     for barrier in [FENCE, EXCHANGE] {
-        for place in 1..31 {
-            let mut forward = vec![ADD; 32];
-            forward[0] = STORE;
-            forward[31] = LOAD;
-            forward[place] = barrier;
+        for place in 1..LAST {
+            let others = [(0, STORE), (LAST, LOAD), (place, barrier)];
+            let forward = among_adds(MOST_INSTRUCTIONS, &others);
             cases.push((job([TSO, 1], &[forward]), FENCED.to_string()));
         }
-        for place in 1..30 {
+        for place in 1..LAST_BUT_ONE {
             let mut back = jumping_back();
             back[place] = barrier;
             cases.push((job([PSO, 2], &[back]), FENCED.to_string()));
         }
+    }
+    cases
+}
+
+/// The thread behind a few of no instructions and under a model, other ones for each turn; the goal is its end.
+fn by_turns(turn: usize, thread: Thread) -> Known {
+    let behind = turn % 4;
+    let memory = MEMORIES[turn % MEMORIES.len()];
+    let (program, pair) = thread;
+    let goal = [[1, behind as u8, 0, program.len() as u8]];
+    let mut programs: Vec<Program> = vec![vec![]; behind];
+    programs.push(program);
+    let line = pair.map_or(FENCED.to_string(), |[s, l]| open(behind as u64, s, l));
+    (file(memory, &[0, 0], &programs, 0, &goal), line)
+}
+
+/// Pairs and fences at the last places of threads of each length that request 2 brought.
+fn of_each_long_length() -> Vec<Known> {
+    let mut cases = Vec::new();
+    for count in MOST_BEFORE + 1..=MOST_INSTRUCTIONS {
+        let [last, before] = [count - 1, count - 2];
+        let [l, b] = [last, before].map(|place| place as u64);
+        let end = count as u8;
+        let of = |others: &[(usize, [u8; 4])]| among_adds(count, others);
+        let turned = |turn| of(&[(0, LOAD), (before, STORE), (last, turn)]);
+        let threads = [
+            opened(&of(&[(0, STORE), (last, LOAD)]), 0, l),
+            fenced(&of(&[(0, STORE), (before, FENCE), (last, LOAD)])),
+            fenced(&of(&[(0, STORE), (before, EXCHANGE), (last, LOAD)])),
+            opened(&of(&[(before, STORE), (last, LOAD)]), b, l),
+            opened(&turned(jump(0)), b, 0),
+            fenced(&turned(jump(end))),
+            fenced(&turned(jump_if(end))),
+            // Behind the last instruction there is only the end.
+            fenced(&of(&[(0, LOAD), (last, STORE)])),
+        ];
+        let turns = (count..).zip(threads);
+        cases.extend(turns.map(|(turn, thread)| by_turns(turn, thread)));
+    }
+    cases
+}
+
+/// Each place that request 2 brought as store, load, fence, jump and target, in a thread of the most instructions.
+fn at_each_high_place() -> Vec<Known> {
+    let mut cases = Vec::new();
+    for place in MOST_BEFORE..MOST_INSTRUCTIONS {
+        let to_place = jump(place as u8);
+        let if_to_place = jump_if(place as u8);
+        let at = place as u64;
+        let of = |others: &[(usize, [u8; 4])]| among_adds(MOST_INSTRUCTIONS, others);
+        // From the store at 0 the load at 2 is met only if the place leads back.
+        let led_back = |back| {
+            of(&[
+                (0, STORE),
+                (1, to_place),
+                (2, LOAD),
+                (3, FENCE),
+                (place, back),
+            ])
+        };
+        let mut threads = vec![
+            opened(&of(&[(0, STORE), (1, to_place), (place, LOAD)]), 0, at),
+            opened(
+                &of(&[(0, STORE), (1, if_to_place), (2, FENCE), (place, LOAD)]),
+                0,
+                at,
+            ),
+            opened(&led_back(jump(2)), 0, 2),
+            opened(&led_back(jump_if(2)), 0, 2),
+            fenced(&led_back(jump(FURTHEST_PLACE))),
+            fenced(&led_back(FENCE)),
+        ];
+        if place < LAST {
+            let next = place + 1;
+            let over = |between| {
+                of(&[
+                    (0, STORE),
+                    (1, to_place),
+                    (2, LOAD),
+                    (3, FENCE),
+                    (place, between),
+                    (next, jump(2)),
+                ])
+            };
+            threads.extend([
+                opened(&of(&[(0, LOAD), (place, STORE), (next, jump(0))]), at, 0),
+                opened(&of(&[(place, STORE), (next, LOAD)]), at, at + 1),
+                opened(&over(ADD), 0, 2),
+                fenced(&over(FENCE)),
+                fenced(&over(EXCHANGE)),
+            ]);
+        }
+        let turns = (place..).zip(threads);
+        cases.extend(turns.map(|(turn, thread)| by_turns(turn, thread)));
     }
     cases
 }
@@ -384,7 +532,7 @@ fn every_small_program() -> Vec<Vec<u8>> {
 /// Each refusal by the job itself.
 fn refused() -> Vec<Known> {
     let known = |(job, refusal)| (job, refused_line(refusal));
-    let jobs = [refused_jobs(), blank_goals()].concat();
+    let jobs = [refused_jobs(), blank_goals(), too_long_threads()].concat();
     jobs.into_iter().map(known).collect()
 }
 
@@ -419,7 +567,7 @@ fn walk_job(random: &mut Random) -> Vec<u8> {
 }
 
 fn walk_program(random: &mut Random) -> Program {
-    let most = random.pick(&[4, 8, 32]);
+    let most = random.pick(&[4, 8, MOST_INSTRUCTIONS]);
     let count = random.between(0, most);
     // A few kinds at a time, or the nearest fence would close nearly every pair.
     let barriers = random.pick(&[0, 10, 30]);

@@ -84,7 +84,7 @@ fn is_load(instruction: Instruction) -> bool {
     matches!(instruction, Instruction::Load { .. })
 }
 
-fn is_barrier(instruction: Instruction) -> bool {
+pub fn is_barrier(instruction: Instruction) -> bool {
     matches!(
         instruction,
         Instruction::Fence | Instruction::Exchange { .. }

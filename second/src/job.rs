@@ -1,5 +1,7 @@
 //! The job file: what it holds, and how it is refused.
 
+use std::ops::RangeInclusive;
+
 /// Why a job is not accepted, and where.
 #[derive(Clone, Copy, Debug, PartialEq, Eq)]
 pub struct Refusal {
@@ -93,12 +95,26 @@ pub struct Job {
     pub goal: Goal,
 }
 
-const LONGEST_FILE: usize = 597;
-const MOST_INSTRUCTIONS: u8 = 32;
+/// Of one thread. This is the only place that says it: the longest file, the cases and the random jobs follow.
+pub const MOST_INSTRUCTIONS: usize = 64;
+const MOST_THREADS: usize = 4;
+const MOST_VARIABLES: usize = 8;
 /// A goal of no clause names no state that must not happen.
-const LEAST_CLAUSES: u8 = 1;
-const MOST_CLAUSES: u8 = 16;
+const LEAST_CLAUSES: usize = 1;
+const MOST_CLAUSES: usize = 16;
 const REGISTERS: usize = 4;
+
+/// Length, version, model, C, T and V.
+const HEAD_BYTES: usize = 7;
+/// Of an instruction, and of a clause.
+const QUAD_BYTES: usize = 4;
+
+/// All counts at their most: head, initial values, n and instructions of each thread, flag and K, clauses.
+pub const LONGEST_FILE: usize = HEAD_BYTES
+    + MOST_VARIABLES
+    + MOST_THREADS * (1 + QUAD_BYTES * MOST_INSTRUCTIONS)
+    + 2
+    + QUAD_BYTES * MOST_CLAUSES;
 
 /// Reads a job file from the front; the first fault wins.
 pub fn decode(job: &[u8]) -> Result<Job, Refusal> {
@@ -108,9 +124,9 @@ pub fn decode(job: &[u8]) -> Result<Job, Refusal> {
     let model = read_model(&mut reader)?;
     // The allowed capacities depend on the model, so the model is read before.
     let capacity = reader.ranged_byte(3, |c| capacity_fits(model, c))?;
-    let threads = reader.ranged_byte(3, |t| (1..=4).contains(&t))?;
-    let variables = reader.ranged_byte(3, |v| (1..=8).contains(&v))?;
-    let initial = read_initial(&mut reader, usize::from(variables))?;
+    let threads = reader.ranged_count(3, 1..=MOST_THREADS)?;
+    let variables = reader.ranged_count(3, 1..=MOST_VARIABLES)?;
+    let initial = read_initial(&mut reader, variables)?;
     let mut programs = Vec::new();
     for _ in 0..threads {
         programs.push(read_program(&mut reader, initial.len())?);
@@ -166,7 +182,7 @@ fn read_initial(reader: &mut Reader, variables: usize) -> Result<Vec<u8>, Refusa
 }
 
 fn read_program(reader: &mut Reader, variables: usize) -> Result<Vec<Instruction>, Refusal> {
-    let length = usize::from(reader.ranged_byte(4, |n| n <= MOST_INSTRUCTIONS)?);
+    let length = reader.ranged_count(4, 0..=MOST_INSTRUCTIONS)?;
     let mut program = Vec::new();
     for _ in 0..length {
         let (offset, bytes) = reader.quad()?;
@@ -240,7 +256,7 @@ fn read_goal(
     variables: usize,
 ) -> Result<Goal, Refusal> {
     let flag = reader.ranged_byte(5, |flag| flag <= 1)?;
-    let count = reader.ranged_byte(5, |k| (LEAST_CLAUSES..=MOST_CLAUSES).contains(&k))?;
+    let count = reader.ranged_count(5, LEAST_CLAUSES..=MOST_CLAUSES)?;
     let mut clauses = Vec::new();
     for _ in 0..count {
         let (offset, bytes) = reader.quad()?;
@@ -321,9 +337,19 @@ impl Reader<'_> {
         }
     }
 
+    /// The next one-byte field as a count of something.
+    fn ranged_count(
+        &mut self,
+        number: u8,
+        allowed: RangeInclusive<usize>,
+    ) -> Result<usize, Refusal> {
+        let count = self.ranged_byte(number, |byte| allowed.contains(&usize::from(byte)))?;
+        Ok(usize::from(count))
+    }
+
     /// The next instruction or clause with its offset.
-    fn quad(&mut self) -> Result<(usize, [u8; 4]), Refusal> {
-        let (offset, bytes) = self.item(4)?;
+    fn quad(&mut self) -> Result<(usize, [u8; QUAD_BYTES]), Refusal> {
+        let (offset, bytes) = self.item(QUAD_BYTES)?;
         Ok((offset, [bytes[0], bytes[1], bytes[2], bytes[3]]))
     }
 

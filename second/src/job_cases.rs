@@ -1,10 +1,12 @@
 //! Cases for the decoder, and the line that each is answered with.
 
-use crate::job::decode;
+use crate::job::{decode, LONGEST_FILE, MOST_INSTRUCTIONS};
 use crate::listed::{
-    at_the_limit, bench_list, blank_goals, fewest_and_most_clauses, file, settled, with_byte,
-    Program, AT_THE_START, P1, PSO, SC, TSO,
+    at_the_limit, bench_list, blank_goals, fewest_and_most_clauses, file, settled,
+    too_long_threads, with_byte, Program, AT_THE_START, FURTHEST_PLACE, P1, PSO, ROOM_FOR_JOB, SC,
+    TSO,
 };
+use crate::long_threads::{of_job, Counts, MOST_BEFORE, OF_JOBS};
 
 /// What the program under test prints for a case.
 pub fn line(job: &[u8]) -> String {
@@ -26,15 +28,24 @@ pub fn all() -> Vec<Vec<u8>> {
         bench_list(),
         blank_goals().into_iter().map(|(job, _)| job).collect(),
         fewest_and_most_clauses(),
+        too_long_threads().into_iter().map(|(job, _)| job).collect(),
+        long_threads(),
     ];
     groups.concat()
 }
 
-/// Few zeros, and sizes about the longest.
+/// How many cases have long threads, by class.
+pub fn counts_of_long_threads() -> Counts {
+    let met: Vec<_> = all().iter().map(|job| of_job(job)).collect();
+    Counts::new(&OF_JOBS, &met)
+}
+
+/// Few zeros, sizes about the longest, and all the room there is.
 fn short_and_long() -> Vec<Vec<u8>> {
     let mut cases: Vec<Vec<u8>> = (0..=8).map(|count| vec![0; count]).collect();
     cases.extend([vec![0, 1, 1], vec![0, 1, 2], vec![0, 1, 0]]);
-    for count in [596, 597, 598, 599, 1024] {
+    let about_the_longest = LONGEST_FILE - 1..=LONGEST_FILE + 2;
+    for count in about_the_longest.chain([ROOM_FOR_JOB]) {
         let right = settled(vec![0; count]);
         cases.extend(lengths_about(&right));
         // A good front leaves only the size to judge.
@@ -113,14 +124,16 @@ fn counts() -> Vec<Vec<u8>> {
             10,
         ));
     }
-    for count in [15, 16, 17, 18, 31, 32, 33, 34] {
+    let about_most_instructions = MOST_INSTRUCTIONS - 1..=MOST_INSTRUCTIONS + 2;
+    for count in (15..=18).chain(about_most_instructions) {
         let program: Program = vec![[6, 0, 0, 0]; count];
         let clauses = vec![[3, 0, 0, 9]; count];
         cases.extend(lying(
             &file(SC, &[0], &[vec![], program.clone()], 0, &[AT_THE_START]),
             9,
         ));
-        cases.extend(lying(&file(SC, &[0], &[program], 0, &[[1, 0, 0, 32]]), 8));
+        let at_the_end = [1, 0, 0, FURTHEST_PLACE];
+        cases.extend(lying(&file(SC, &[0], &[program], 0, &[at_the_end]), 8));
         cases.extend(lying(&file(SC, &[0], &[vec![]], 1, &clauses), 10));
     }
     for flag in NEAR {
@@ -128,6 +141,28 @@ fn counts() -> Vec<Vec<u8>> {
         cases.push(job.clone());
         // With a bad flag the number of clauses isn't judged any more.
         cases.push(with_byte(&job, 10, 17));
+    }
+    cases
+}
+
+/// Each length that request 2 brought: jumps and place clauses to the end and one beyond, and a file that ends early.
+fn long_threads() -> Vec<Vec<u8>> {
+    let mut cases = Vec::new();
+    for count in MOST_BEFORE + 1..=MOST_INSTRUCTIONS {
+        let n = count as u8;
+        let barrier = [[6, 0, 0, 0], [7, 0, 0, 0]][count % 2];
+        for place in [n, n + 1] {
+            for last in [barrier, [8, 3, place, 1], [9, 0, place, 0]] {
+                let mut program = vec![barrier; count];
+                program[count - 1] = last;
+                let programs = [vec![barrier], program];
+                let clause = [1, 1, 0, place];
+                cases.push(file([TSO, 8], &[0], &programs, 0, &[clause]));
+            }
+        }
+        let alone = file(SC, &[0], &[vec![barrier; count]], 1, &[AT_THE_START]);
+        cases.push(settled(alone[..8 + 4 * count].to_vec()));
+        cases.extend(lying(&alone, 8));
     }
     cases
 }
@@ -192,12 +227,14 @@ fn behind_another(clause: [u8; 4]) -> Vec<u8> {
 /// The longest file, and it with a fault in its last instruction and in its last clause.
 fn at_limits() -> Vec<Vec<u8>> {
     let longest = at_the_limit();
-    let last_instruction = 527;
     let last_clause = longest.len() - 4;
+    // Sixteen clauses, K and the flag stand behind it.
+    let last_instruction = longest.len() - 4 * 16 - 2 - 4;
     let mut cases = lengths_about(&longest);
     for begin in [last_instruction, last_clause] {
         for at in begin..begin + 4 {
-            cases.extend([0, 4, 8, 33, 255].map(|value| with_byte(&longest, at, value)));
+            let values = [0, 4, 8, FURTHEST_PLACE + 1, 255];
+            cases.extend(values.map(|value| with_byte(&longest, at, value)));
         }
     }
     for count in longest.len() - 5..longest.len() {

@@ -10,6 +10,7 @@ pub mod job;
 pub mod job_cases;
 pub mod job_folder;
 pub mod listed;
+pub mod long_threads;
 pub mod machine;
 pub mod random;
 pub mod replay;

@@ -1,5 +1,8 @@
 //! The jobs of the bench list, and what job files are put together with.
 
+use crate::job::{LONGEST_FILE, MOST_INSTRUCTIONS};
+use std::slice;
+
 /// P1 of the bench list, store buffering.
 pub const P1: [u8; 45] = [
     0x00, 0x2B, 0x01, 0x01, 0x01, 0x02, 0x02, 0x00, 0x00, 0x02, 0x05, 0x00, 0x00, 0x01, 0x03, 0x00,
@@ -8,7 +11,10 @@ pub const P1: [u8; 45] = [
 ];
 
 /// The room for a job in the programs under test; a longer one would end their run.
-pub const ROOM_FOR_JOB: usize = 1024;
+pub const ROOM_FOR_JOB: usize = 2 * LONGEST_FILE;
+
+/// Where a thread of the most instructions has ended, as jumps and clauses name it.
+pub const FURTHEST_PLACE: u8 = MOST_INSTRUCTIONS as u8;
 
 /// Model and C.
 pub type Memory = [u8; 2];
@@ -23,6 +29,9 @@ pub const MEMORIES: [Memory; 6] = [SC, [TSO, 1], [TSO, 2], [PSO, 1], [PSO, 2], [
 
 /// The clause that thread 0 is at place 0: every job may ask for it, and it holds at the start.
 pub const AT_THE_START: [u8; 4] = [1, 0, 0, 0];
+
+/// A step of long threads: counts in a register that they use for nothing else.
+pub const COUNT: [u8; 4] = [2, 1, 0, 1];
 
 /// A job file whose counts and length field are right.
 pub fn file(
@@ -211,6 +220,29 @@ pub fn refused_jobs() -> Vec<Refused> {
     ]
 }
 
+/// A thread one instruction too long as the first, second and fourth, in a whole file and in files that end early.
+pub fn too_long_threads() -> Vec<Refused> {
+    let fence = [6, 0, 0, 0];
+    let long = vec![fence; MOST_INSTRUCTIONS];
+    let too_long = vec![fence; MOST_INSTRUCTIONS + 1];
+    let job = |programs: &[Program]| file([TSO, 1], &[0], programs, 0, &[AT_THE_START]);
+    let first = job(slice::from_ref(&too_long));
+    // Head and value take 8 bytes, so the first n stands there.
+    let cut = |count: usize| settled(first[..count].to_vec());
+    vec![
+        (first.clone(), [4, 8]),
+        (job(&[long.clone(), too_long.clone()]), [4, 8 + 257]),
+        (
+            job(&[vec![], long, vec![fence; 51], too_long]),
+            [4, 8 + 1 + 257 + 205],
+        ),
+        // What n holds is judged before what is missing behind it.
+        (cut(9), [4, 8]),
+        (cut(first.len() - 9), [4, 8]),
+        (cut(8), [6, 8]),
+    ]
+}
+
 /// Each model once.
 const MODELS: [Memory; 3] = [SC, [TSO, 1], [PSO, 2]];
 
@@ -260,7 +292,7 @@ fn with_clauses(memory: Memory, count: u8) -> Vec<u8> {
     p1_with_goal(memory, &[&[0, count][..], &clauses].concat())
 }
 
-/// A job at every limit: 4 threads of 32 instructions, 8 variables and 16 clauses, in 597 bytes.
+/// A job at every limit: 4 threads of the most instructions, 8 variables and 16 clauses.
 pub fn at_the_limit() -> Vec<u8> {
     let programs: Vec<Program> = (0..4).map(long_program).collect();
     let clauses: Vec<[u8; 4]> = (0..16).map(limit_clause).collect();
@@ -273,9 +305,9 @@ pub fn at_the_limit() -> Vec<u8> {
     )
 }
 
-/// Thirty-two instructions of all nine operations, with operands at their last values.
+/// The most instructions, of all nine operations, with operands at their last values.
 fn long_program(thread: u8) -> Program {
-    (0..32)
+    (0..FURTHEST_PLACE)
         .map(|place| limit_instruction(thread + place))
         .collect()
 }
@@ -289,15 +321,15 @@ fn limit_instruction(turn: u8) -> [u8; 4] {
         4 => [5, 0, 7, 255],
         5 => [6, 0, 0, 0],
         6 => [7, 3, 7, 0],
-        7 => [8, 3, 32, 255],
-        8 => [9, 0, 32, 0],
+        7 => [8, 3, FURTHEST_PLACE, 255],
+        8 => [9, 0, FURTHEST_PLACE, 0],
         9..=255 => unreachable!("a remainder by 9 is below 9"),
     }
 }
 
 fn limit_clause(turn: u8) -> [u8; 4] {
     match turn % 3 {
-        0 => [1, 3, 0, 32],
+        0 => [1, 3, 0, FURTHEST_PLACE],
         1 => [2, 3, 3, 255],
         2 => [3, 7, 0, 255],
         3..=255 => unreachable!("a remainder by 3 is below 3"),

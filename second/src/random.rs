@@ -1,6 +1,6 @@
 //! Repeatable random jobs, buffer sizes and schedules for a comparison.
 
-use crate::job::decode;
+use crate::job::{decode, LONGEST_FILE, MOST_INSTRUCTIONS};
 use crate::listed::AT_THE_START;
 use crate::machine::{successors, State, SLOT_BYTES};
 use crate::search::search;
@@ -75,7 +75,8 @@ pub fn case(random: &mut Random) -> Case {
 
 /// Random bytes, often with a front good enough to get past the first checks.
 pub fn random_bytes(random: &mut Random) -> Vec<u8> {
-    let most_bytes = random.pick(&[4, 20, 60, 620]);
+    // The last is a little more than a file may have.
+    let most_bytes = random.pick(&[4, 20, 60, LONGEST_FILE + 23]);
     // Small bytes mean something far more often than large ones.
     let bound = random.pick(&[3, 10, 256]);
     let count = random.between(0, most_bytes);
@@ -179,7 +180,11 @@ fn draft_with_any_goal(random: &mut Random, longest: bool) -> Draft {
     let variables = if longest { 8 } else { some_variables(random) };
     let mut programs = Vec::new();
     for _ in 0..threads {
-        let count = if longest { 32 } else { some_count(random) };
+        let count = if longest {
+            MOST_INSTRUCTIONS
+        } else {
+            some_count(random)
+        };
         programs.push(sound_program(random, count, variables));
     }
     Draft {
@@ -217,8 +222,8 @@ fn some_variables(random: &mut Random) -> usize {
 /// Short programs mostly, because their state spaces can be searched in full.
 fn some_count(random: &mut Random) -> usize {
     match random.below(50) {
-        0 => random.pick(&[31, 32]),
-        1..=3 => random.between(8, 32),
+        0 => random.pick(&[MOST_INSTRUCTIONS - 1, MOST_INSTRUCTIONS]),
+        1..=3 => random.between(8, MOST_INSTRUCTIONS),
         4..=10 => random.between(5, 8),
         _ => random.between(0, 4),
     }
@@ -234,13 +239,38 @@ fn some_value(random: &mut Random) -> u8 {
 }
 
 fn sound_program(random: &mut Random, count: usize, variables: usize) -> Program {
-    let instructions = (0..count)
-        .map(|_| sound_instruction(random, count, variables))
+    let front = quiet_front(random, count);
+    let mut instructions: Vec<[u8; 4]> = (0..count)
+        .map(|place| {
+            if place < front {
+                quiet_instruction(random)
+            } else {
+                sound_instruction(random, count, variables)
+            }
+        })
         .collect();
+    if front > 0 && random.percent(60) {
+        // Short walks and searches get past the front, too.
+        instructions[0] = [9, 0, front as u8, 0];
+    }
     Program {
         count: count as u8,
         instructions,
     }
+}
+
+/// So many instructions at the front of a long program touch no variable, so that its first stores, loads and fences stand late.
+fn quiet_front(random: &mut Random, count: usize) -> usize {
+    if count > 8 && random.percent(50) {
+        random.between(0, count)
+    } else {
+        0
+    }
+}
+
+fn quiet_instruction(random: &mut Random) -> [u8; 4] {
+    let register = random.below(4) as u8;
+    [random.pick(&[1, 2]), register, 0, some_value(random)]
 }
 
 fn sound_instruction(random: &mut Random, count: usize, variables: usize) -> [u8; 4] {
@@ -464,13 +494,14 @@ fn edge_program_count(random: &mut Random, draft: &mut Draft) {
     }
     let variables = draft.initial.len().max(1);
     let thread = random.below(draft.programs.len());
-    let count = random.pick(&[0, 31, 32, 33, 255]);
+    let most = MOST_INSTRUCTIONS;
+    let count = random.pick(&[0, most - 1, most, most + 1, 255]);
     draft.programs[thread] = match random.below(3) {
         0 => Program {
-            count,
+            count: count as u8,
             instructions: draft.programs[thread].instructions.clone(),
         },
-        _ => sound_program(random, usize::from(count), variables),
+        _ => sound_program(random, count, variables),
     };
 }
 

@@ -1,12 +1,15 @@
 //! Cases for replay, and the line that each is answered with.
 
+use crate::job::MOST_INSTRUCTIONS;
 use crate::listed::{
     accepted_list, at_the_limit, bench_list, blank_goals, classics, fewest_and_most_clauses, file,
-    p12, refused_jobs, with_byte, Program, Refused, MEMORIES, P12_REFUSAL, PSO, ROOM_FOR_JOB, SC,
-    TSO,
+    p12, refused_jobs, too_long_threads, with_byte, Program, Refused, COUNT, FURTHEST_PLACE,
+    MEMORIES, P12_REFUSAL, PSO, ROOM_FOR_JOB, SC, TSO,
 };
+use crate::long_threads::{ends_high, of_job, Counts, HIGH_END, MOST_BEFORE, OF_JOBS};
 use crate::random::{damaged_job, found_schedule, replay_schedule, sound_job, Random};
 use crate::replay::replay;
+use std::slice;
 
 /// A job, and the schedule that is replayed on it.
 #[derive(Clone)]
@@ -74,9 +77,25 @@ pub fn all_known() -> Vec<Known> {
         found(),
         with_any_schedule(refused_jobs()),
         with_any_schedule(blank_goals()),
+        with_any_schedule(too_long_threads()),
         about_the_range_of_k(),
+        to_each_long_end(),
+        to_each_high_place(),
+        at_the_last_place(),
+        four_long_threads(),
     ];
     groups.concat()
+}
+
+/// How many cases have long threads, by class.
+pub fn counts_of_long_threads() -> Counts {
+    let classes = [&OF_JOBS[..], &[HIGH_END]].concat();
+    let met = |case: &Case| {
+        let ends_high = ends_high(&case.job, &case.schedule);
+        [of_job(&case.job), vec![HIGH_END; usize::from(ends_high)]].concat()
+    };
+    let met: Vec<_> = all().iter().map(met).collect();
+    Counts::new(&classes, &met)
 }
 
 /// The schedules that the bench list names, P11 on each of its jobs.
@@ -497,6 +516,131 @@ fn about_the_range_of_k() -> Vec<Known> {
     for job in fewest_and_most_clauses() {
         cases.push(known(&job, &[], REACHES));
         cases.push(known(&job, &[0], FALLS_SHORT));
+    }
+    cases
+}
+
+/// Threads of each length that request 2 brought: to the end step by step and by a jump, and no step beyond.
+fn to_each_long_end() -> Vec<Known> {
+    let mut cases = Vec::new();
+    for count in MOST_BEFORE + 1..=MOST_INSTRUCTIONS {
+        let n = count as u8;
+        let memory = MEMORIES[count % MEMORIES.len()];
+        let program = vec![COUNT; count];
+        let job = |program: &Program, counted| {
+            let goal = [[1, 0, 0, n], [2, 0, 1, counted]];
+            file(memory, &[0], slice::from_ref(program), 0, &goal)
+        };
+        let walked = job(&program, n);
+        let steps = vec![0; count + 1];
+        cases.extend([
+            known(&walked, &steps[..count], REACHES),
+            known(&walked, &steps[..count - 1], FALLS_SHORT),
+            known(&walked, &steps, &stuck_at(count)),
+        ]);
+        for jump in [[9, 0, n, 0], [8, 0, n, 0]] {
+            let mut program = program.clone();
+            program[0] = jump;
+            let jumped = job(&program, 0);
+            cases.extend([
+                known(&jumped, &[0], REACHES),
+                known(&jumped, &[0, 0], "STUCK 1"),
+            ]);
+        }
+    }
+    cases
+}
+
+/// A jump to each place that request 2 brought, where the instruction of that place is then run.
+fn to_each_high_place() -> Vec<Known> {
+    let mut cases = Vec::new();
+    for place in MOST_BEFORE..MOST_INSTRUCTIONS {
+        let p = place as u8;
+        let mut program: Program = (0..FURTHEST_PLACE).map(|own| [1, 2, 0, own]).collect();
+        program[0] = if place % 2 == 0 {
+            [9, 0, p, 0]
+        } else {
+            [8, 0, p, 0]
+        };
+        let memory = MEMORIES[place % MEMORIES.len()];
+        let goal = [[1, 3, 0, p + 1], [2, 3, 2, p]];
+        let job = file(memory, &[0], &[vec![], vec![], vec![], program], 0, &goal);
+        cases.push(known(&job, &[3, 3], REACHES));
+        cases.push(known(&job, &[3], FALLS_SHORT));
+    }
+    cases
+}
+
+/// Each kind of instruction at the last place of a thread of the most instructions, and what is left to do at its end.
+fn at_the_last_place() -> Vec<Known> {
+    let mut cases = Vec::new();
+    let n = FURTHEST_PLACE;
+    // So many executions, then these steps.
+    let then = |count: usize, more: &[u8]| [&vec![0; count], more].concat();
+    let [ended, last] = [MOST_INSTRUCTIONS, MOST_INSTRUCTIONS - 1];
+    let store = [5, 0, 0, 9];
+    for memory in MEMORIES {
+        let job = |ending: &[[u8; 4]], flag, goal: &[[u8; 4]]| {
+            let mut program = vec![COUNT; MOST_INSTRUCTIONS - ending.len()];
+            program.extend(ending);
+            file(memory, &[0], &[program], flag, goal)
+        };
+        let load = job(&[store, [3, 0, 0, 0]], 0, &[[1, 0, 0, n], [2, 0, 0, 9]]);
+        let jump = job(&[[9, 0, 0, 0]], 1, &[[1, 0, 0, 0], [2, 0, 1, n - 1]]);
+        let jump_taken = job(&[[8, 1, 0, n - 1]], 1, &[[1, 0, 0, 0]]);
+        let not_taken = job(&[[8, 1, 0, n]], 1, &[[1, 0, 0, n]]);
+        cases.extend([
+            known(&load, &then(ended, &[]), REACHES),
+            known(&load, &then(ended, &[0]), &stuck_at(ended)),
+            known(&jump, &then(ended, &[]), REACHES),
+            known(&jump, &then(ended, &[0]), FALLS_SHORT),
+            known(&jump_taken, &then(ended, &[]), REACHES),
+            known(&not_taken, &then(ended, &[]), REACHES),
+            known(&not_taken, &then(ended, &[0]), &stuck_at(ended)),
+        ]);
+        if memory == SC {
+            continue;
+        }
+        let stores = job(&[store], 1, &[[1, 0, 0, n], [3, 0, 0, 9]]);
+        let fence = job(&[store, [6, 0, 0, 0]], 1, &[[1, 0, 0, n]]);
+        let exchange = job(&[store, [7, 0, 0, 0]], 1, &[[2, 0, 0, 9], [3, 0, 0, 0]]);
+        cases.extend([
+            known(&stores, &then(ended, &[]), FALLS_SHORT),
+            known(&stores, &then(ended, &[4]), REACHES),
+            known(&stores, &then(ended, &[4, 4]), &stuck_at(ended + 1)),
+            known(&stores, &then(ended, &[4, 0]), &stuck_at(ended + 1)),
+        ]);
+        for waits in [fence, exchange] {
+            cases.extend([
+                known(&waits, &then(last, &[0]), &stuck_at(last)),
+                known(&waits, &then(last, &[4]), FALLS_SHORT),
+                known(&waits, &then(last, &[4, 0]), REACHES),
+                known(&waits, &then(last, &[4, 0, 0]), &stuck_at(ended + 1)),
+            ]);
+        }
+    }
+    cases
+}
+
+/// Four threads of the most instructions, run to their ends by turns.
+fn four_long_threads() -> Vec<Known> {
+    let mut cases = Vec::new();
+    let goal = [0, 1, 2, 3].map(|thread| [1, thread, 0, FURTHEST_PLACE]);
+    let steps = [0, 1, 2, 3].repeat(MOST_INSTRUCTIONS);
+    for memory in MEMORIES {
+        let job = file(
+            memory,
+            &[0],
+            &vec![vec![COUNT; MOST_INSTRUCTIONS]; 4],
+            1,
+            &goal,
+        );
+        cases.push(known(&job, &steps, REACHES));
+        cases.push(known(&job, &steps[..steps.len() - 1], FALLS_SHORT));
+        for thread in 0..4 {
+            let beyond = [&steps[..], &[thread]].concat();
+            cases.push(known(&job, &beyond, &stuck_at(steps.len())));
+        }
     }
     cases
 }

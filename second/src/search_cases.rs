@@ -1,9 +1,12 @@
 //! Cases for the search in lent memory, and the two lines that each is answered with.
 
+use crate::job::MOST_INSTRUCTIONS;
 use crate::listed::{
     accepted_list, at_the_limit, bench_list, blank_goals, classics, fewest_and_most_clauses, file,
-    p12, refused_jobs, Refused, AT_THE_START, MEMORIES, P1, TSO,
+    p12, refused_jobs, too_long_threads, Memory, Program, Refused, AT_THE_START, COUNT,
+    FURTHEST_PLACE, MEMORIES, P1, TSO,
 };
+use crate::long_threads::{ends_high, of_job, Counts, HIGH_GOAL, MOST_BEFORE, OF_JOBS};
 use crate::machine::SLOT_BYTES;
 use crate::random::{buffer_sizes, sound_job, Random, Sizes};
 use crate::search::search;
@@ -24,15 +27,12 @@ const ROOM: Sizes = Sizes {
 
 /// What the program under test prints for a case: the answer, and a sum over each whole memory.
 pub fn lines(case: &Case) -> String {
-    let mut table = pattern(ROOM.table, 3);
-    let mut links: Vec<u32> = (1_000_003..).take(ROOM.links).collect();
-    let mut schedule = pattern(ROOM.schedule, 5);
-    let answer = search(
-        &case.job,
-        &mut table[..case.sizes.table],
-        &mut links[..case.sizes.links],
-        &mut schedule[..case.sizes.schedule],
-    );
+    let Searched {
+        answer,
+        table,
+        links,
+        schedule,
+    } = searched(case);
     let sums = [
         sum(table.into_iter().map(u64::from)),
         sum(links.into_iter().map(u64::from)),
@@ -45,6 +45,32 @@ pub fn lines(case: &Case) -> String {
         sums[1],
         sums[2]
     )
+}
+
+/// The answer to a case, and all the memory that there was to lend as the search leaves it.
+struct Searched {
+    answer: [u64; 4],
+    table: Vec<u8>,
+    links: Vec<u32>,
+    schedule: Vec<u8>,
+}
+
+fn searched(case: &Case) -> Searched {
+    let mut table = pattern(ROOM.table, 3);
+    let mut links: Vec<u32> = (1_000_003..).take(ROOM.links).collect();
+    let mut schedule = pattern(ROOM.schedule, 5);
+    let answer = search(
+        &case.job,
+        &mut table[..case.sizes.table],
+        &mut links[..case.sizes.links],
+        &mut schedule[..case.sizes.schedule],
+    );
+    Searched {
+        answer,
+        table,
+        links,
+        schedule,
+    }
 }
 
 /// Byte i is (7 i + first) mod 251.
@@ -80,8 +106,33 @@ pub fn all() -> Vec<Case> {
         about_the_range_of_k(),
         with_all_the_room(),
         random_jobs(),
+        with_and_without_room(too_long_threads()),
+        to_each_long_end(),
+        about_the_longest_way(),
+        beside_a_long_thread(),
     ];
     groups.concat()
+}
+
+/// How many cases have long threads, by class.
+pub fn counts_of_long_threads() -> Counts {
+    let classes = [&OF_JOBS[..], &[HIGH_GOAL]].concat();
+    let met = |case: &Case| {
+        let Searched {
+            answer, schedule, ..
+        } = searched(case);
+        let to_high_goal = match answer {
+            [1, distance, ..] => ends_high(&case.job, &schedule[..distance as usize]),
+            _ => false,
+        };
+        [
+            of_job(&case.job),
+            vec![HIGH_GOAL; usize::from(to_high_goal)],
+        ]
+        .concat()
+    };
+    let met: Vec<_> = all().iter().map(met).collect();
+    Counts::new(&classes, &met)
 }
 
 /// Just so many slots, the table, the links or the schedule being the smallest by turns.
@@ -160,8 +211,8 @@ fn fits(sizes: Sizes) -> bool {
 fn narrow_buffers() -> Vec<Case> {
     let mut cases = Vec::new();
     for table in [0, 1, 95, 96, 97, 191, 192, 193, 2111, 2112, 2113] {
-        for links in [0, 1, 21, 22, 1024] {
-            for schedule in [0, 1, 3, 4, 21, 22, 1024] {
+        for links in [0, 1, 21, 22, ROOM.links] {
+            for schedule in [0, 1, 3, 4, 21, 22, ROOM.schedule] {
                 let sizes = Sizes {
                     table,
                     links,
@@ -220,6 +271,81 @@ fn with_all_the_room() -> Vec<Case> {
     jobs.extend([two_counters, at_the_limit()]);
     let cases = jobs.into_iter().map(|job| Case { sizes: ROOM, job });
     cases.collect()
+}
+
+/// One thread of so many counts, asked for its end: as many steps, and one state more.
+pub fn long_way(memory: Memory, count: usize) -> Vec<u8> {
+    let goal = [[1, 0, 0, count as u8]];
+    file(memory, &[0], &[vec![COUNT; count]], 0, &goal)
+}
+
+/// Each length that request 2 brought, with just room enough.
+fn to_each_long_end() -> Vec<Case> {
+    let ways = (MOST_BEFORE + 1..=MOST_INSTRUCTIONS).map(|count| {
+        let job = long_way(MEMORIES[count % MEMORIES.len()], count);
+        lent(&job, count + 1, count)
+    });
+    ways.collect()
+}
+
+/// The sequencer of request 2 and the longest thread: a slot too few, as many as are needed, and one more.
+fn about_the_longest_way() -> Vec<Case> {
+    let mut cases = Vec::new();
+    for memory in MEMORIES {
+        for count in [51, MOST_INSTRUCTIONS] {
+            let job = long_way(memory, count);
+            let rooms = (count..count + 3).enumerate();
+            cases.extend(rooms.map(|(turn, slots)| lent(&job, slots, turn)));
+        }
+    }
+    cases
+}
+
+/// A long thread beside a short one: it ends, handshakes at its last places, goes round, or jumps to its end.
+fn beside_a_long_thread() -> Vec<Case> {
+    let mut cases = Vec::new();
+    let none: Program = vec![];
+    let [raise, look, fence] = [[5, 0, 0, 1], [3, 0, 1, 0], [6, 0, 0, 0]];
+    let [raise_other, look_other] = [[5, 0, 1, 1], [3, 0, 0, 0]];
+    let handshake = vec![raise_other, look_other];
+    let fenced_handshake = vec![raise_other, fence, look_other];
+    let ending = |last: &[[u8; 4]]| {
+        let mut program = vec![COUNT; MOST_INSTRUCTIONS - last.len()];
+        program.extend(last);
+        program
+    };
+    // Set and never counted, so that a turn comes back to a state that is known.
+    let mut round = vec![[1, 1, 0, 1]; MOST_INSTRUCTIONS];
+    round[MOST_INSTRUCTIONS - 1] = [9, 0, 0, 0];
+    let mut over = ending(&[]);
+    over[0] = [9, 0, FURTHEST_PLACE, 0];
+    let both_ended = |short: &Program| {
+        let end = [1, 1, 0, short.len() as u8];
+        [[1, 0, 0, FURTHEST_PLACE], end, [2, 0, 0, 0], [2, 1, 0, 0]]
+    };
+    let pairs = [
+        (ending(&[]), handshake.clone()),
+        (ending(&[raise, look]), handshake.clone()),
+        (ending(&[raise, fence, look]), fenced_handshake),
+        (round, none.clone()),
+        (over, handshake),
+        (vec![COUNT; MOST_INSTRUCTIONS], none),
+    ];
+    for memory in MEMORIES {
+        for (long, short) in &pairs {
+            let goal = both_ended(short);
+            let job = file(memory, &[0, 0], &[long.clone(), short.clone()], 0, &goal);
+            let needed = count(&job);
+            let rooms = (needed - 1..=needed + 1).enumerate();
+            cases.extend(rooms.map(|(turn, slots)| lent(&job, slots, turn)));
+        }
+        // As many threads as there are, which no room here holds.
+        let ends = [0, 1, 2, 3].map(|thread| [1, thread, 0, FURTHEST_PLACE]);
+        let job = file(memory, &[0], &vec![ending(&[]); 4], 1, &ends);
+        cases.push(Case { sizes: ROOM, job });
+    }
+    cases.retain(|case| fits(case.sizes));
+    cases
 }
 
 const RANDOM_JOBS: usize = 60;

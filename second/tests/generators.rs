@@ -2,6 +2,10 @@
 
 mod common;
 use common::*;
+use second::job::{LONGEST_FILE, MOST_INSTRUCTIONS};
+use second::long_threads::{
+    of_fence_check, of_job, Counts, HELD_HIGH, OF_FENCE_CHECKS, OF_JOBS, ONE_TOO_MANY,
+};
 use second::random::{
     buffer_sizes, case, damaged_job, random_bytes, replay_schedule, sound_job, Random,
 };
@@ -59,10 +63,32 @@ fn sound_jobs_reach_the_edges_of_the_ranges() {
         shapes.insert(("flag", usize::from(job.goal.buffers_empty)));
         longest = longest.max(bytes.len());
     }
-    assert_eq!(lengths, (0..=32).collect());
+    assert_eq!(lengths, (0..=MOST_INSTRUCTIONS).collect());
     assert_eq!(shapes.len(), 3 + 9 + 4 + 8 + 16 + 2);
     assert!(!shapes.contains(&("clauses", 0)));
-    assert_eq!(longest, 597);
+    assert_eq!(longest, LONGEST_FILE);
+}
+
+#[test]
+fn sound_and_damaged_jobs_have_long_threads() {
+    let mut random = Random::new(10);
+    let met = |job: &[u8]| [of_job(job), of_fence_check(job)].concat();
+    let sound: Vec<_> = (0..4_000).map(|_| met(&sound_job(&mut random))).collect();
+    let classes = [&OF_JOBS[..], &OF_FENCE_CHECKS].concat();
+    for (class, count) in Counts::new(&classes, &sound).of_classes {
+        // A sound job isn't refused, and fences seldom close every pair of a random program.
+        let least = match class {
+            ONE_TOO_MANY => 0,
+            HELD_HIGH => 1,
+            _ => 20,
+        };
+        assert!(count >= least, "only {count} of {class}");
+    }
+    let damaged: Vec<_> = (0..4_000)
+        .map(|_| of_job(&damaged_job(&mut random)))
+        .collect();
+    let counts = Counts::new(&[ONE_TOO_MANY], &damaged);
+    assert!(counts.of_classes[0].1 >= 20, "{counts:?}");
 }
 
 #[test]
@@ -80,7 +106,7 @@ fn damaged_jobs_meet_every_refusal() {
         refusals[..7].iter().all(|&count| count > 500),
         "{refusals:?}"
     );
-    assert!(sizes.contains(&597) && sizes.contains(&598));
+    assert!(sizes.contains(&LONGEST_FILE) && sizes.contains(&(LONGEST_FILE + 1)));
 }
 
 /// A job refused for a blank goal is accepted with one clause in its place; gives K's offset.

@@ -1,4 +1,4 @@
-//! The jobs that a person can try: the bench list as 01 and request 8 give it, and that the classics are not empty shells.
+//! The jobs that a person can try: the bench list as 01 and request 8 give it, and that the handshakes are not empty shells.
 
 use second::job::{decode, Clause, Instruction, Job};
 use second::job_folder::check;
@@ -11,7 +11,7 @@ use std::path::{Path, PathBuf};
 
 const REACHABLE: u64 = 1;
 const UNREACHABLE: u64 = 2;
-/// More than any of the classics has states.
+/// More than any of the handshakes has states.
 const PLENTY: usize = 65_536;
 
 /// The algorithms as published, and the shortened forms beside the two that outgrow the bench.
@@ -23,6 +23,11 @@ const CLASSICS: [&str; 6] = [
     "lamport",
     "lamport-short",
 ];
+
+/// All that stand here plain and fenced, under SC and TSO: the classics, and the sequencer of request 2.
+fn handshakes() -> impl Iterator<Item = &'static str> {
+    CLASSICS.into_iter().chain(["sequencer"])
+}
 
 fn folder() -> PathBuf {
     Path::new(env!("CARGO_MANIFEST_DIR")).join("../jobs")
@@ -103,9 +108,9 @@ fn quads(bytes: &[u8]) -> Program {
     quads.map(|quad| quad.try_into().unwrap()).collect()
 }
 
-fn variants(classic: &str) -> [String; 4] {
+fn variants(handshake: &str) -> [String; 4] {
     ["plain-sc", "plain-tso", "fenced-sc", "fenced-tso"]
-        .map(|variant| format!("{classic}-{variant}"))
+        .map(|variant| format!("{handshake}-{variant}"))
 }
 
 #[test]
@@ -152,32 +157,32 @@ fn the_table_names_every_job_with_its_answer() {
 }
 
 #[test]
-fn the_classics_answer_as_published_when_there_is_room() {
-    for classic in CLASSICS {
-        let answers = variants(classic).map(|name| answer(&stored(&name)));
+fn the_handshakes_answer_as_published_when_there_is_room() {
+    for handshake in handshakes() {
+        let answers = variants(handshake).map(|name| answer(&stored(&name)));
         let published = [UNREACHABLE, REACHABLE, UNREACHABLE, UNREACHABLE];
-        assert_eq!(answers, published, "{classic}");
+        assert_eq!(answers, published, "{handshake}");
     }
 }
 
 #[test]
 fn model_and_fences_are_all_that_differs() {
-    for classic in CLASSICS {
-        let [plain, plain_tso, fenced, fenced_tso] = variants(classic).map(|name| Parts::of(&name));
+    for name in handshakes() {
+        let [plain, plain_tso, fenced, fenced_tso] = variants(name).map(|name| Parts::of(&name));
         for (sc, tso) in [(&plain, &plain_tso), (&fenced, &fenced_tso)] {
-            assert_eq!((sc.memory, tso.memory[0]), (SC, 1), "{classic}");
-            assert_eq!(sc.initial, tso.initial, "{classic}");
-            assert_eq!(sc.programs, tso.programs, "{classic}");
-            assert_eq!(sc.clauses, tso.clauses, "{classic}");
+            assert_eq!((sc.memory, tso.memory[0]), (SC, 1), "{name}");
+            assert_eq!(sc.initial, tso.initial, "{name}");
+            assert_eq!(sc.programs, tso.programs, "{name}");
+            assert_eq!(sc.clauses, tso.clauses, "{name}");
         }
-        assert_eq!(plain.initial, fenced.initial, "{classic}");
+        assert_eq!(plain.initial, fenced.initial, "{name}");
         for (without, with) in plain.job.programs.iter().zip(&fenced.job.programs) {
-            assert_eq!(without, &without_fences(with), "{classic}");
+            assert_eq!(without, &without_fences(with), "{name}");
         }
         for thread in 0..2 {
             let moved = fenced.critical(thread)
                 - fences_before(&fenced.job.programs[thread], fenced.critical(thread));
-            assert_eq!(plain.critical(thread), moved, "{classic}");
+            assert_eq!(plain.critical(thread), moved, "{name}");
         }
     }
 }
@@ -215,17 +220,16 @@ fn without_fences(program: &[Instruction]) -> Vec<Instruction> {
 
 #[test]
 fn each_thread_gets_in_alone_and_beside_the_other() {
-    for classic in CLASSICS {
-        for name in variants(classic) {
-            for thread in 0..2 {
-                let mut parts = Parts::of(&name);
-                parts.clauses = vec![parts.clauses[thread]];
-                assert_eq!(answer(&parts.file()), REACHABLE, "{name} {thread}");
-                // Alone: the other thread is empty and has not announced itself.
-                parts.programs[1 - thread].clear();
-                parts.initial.fill(0);
-                assert_eq!(answer(&parts.file()), REACHABLE, "{name} {thread} alone");
-            }
+    let names = handshakes().flat_map(variants);
+    for name in names.chain(LONGEST.map(str::to_string)) {
+        for thread in 0..2 {
+            let mut parts = Parts::of(&name);
+            parts.clauses = vec![parts.clauses[thread]];
+            assert_eq!(answer(&parts.file()), REACHABLE, "{name} {thread}");
+            // Alone: the other thread is empty and has not announced itself.
+            parts.programs[1 - thread].clear();
+            parts.initial.fill(0);
+            assert_eq!(answer(&parts.file()), REACHABLE, "{name} {thread} alone");
         }
     }
 }
@@ -258,20 +262,106 @@ fn without_its_guard_a_classic_fails_under_sc() {
 }
 
 #[test]
-fn no_fence_of_a_fenced_classic_is_idle() {
-    for classic in CLASSICS {
-        let name = format!("{classic}-fenced-tso");
+fn no_fence_of_a_fenced_handshake_is_idle() {
+    for handshake in handshakes() {
+        let name = format!("{handshake}-fenced-tso");
         assert_eq!(fences(&stored(&name))[0], 1, "{name}");
         let whole = Parts::of(&name);
         for thread in 0..2 {
             for place in 0..whole.programs[thread].len() {
                 if whole.programs[thread][place] == [6, 0, 0, 0] {
                     let mut parts = Parts::of(&name);
-                    // A register that no job uses is set to what it holds.
-                    parts.programs[thread][place] = [1, 3, 0, 0];
+                    parts.programs[thread][place] = NOTHING;
                     assert_eq!(fences(&parts.file())[0], 2, "{name} {thread} {place}");
                 }
             }
         }
+    }
+}
+
+/// Adds 0 to a register.
+const NOTHING: [u8; 4] = [2, 3, 0, 0];
+
+/// The sequencers that fill a thread.
+const LONGEST: [&str; 2] = [
+    "sequencer-longest-plain-tso",
+    "sequencer-longest-fenced-tso",
+];
+
+#[test]
+fn the_sequencers_have_the_lengths_that_their_names_and_request_2_say() {
+    let length = |name: &str| Parts::of(name).programs[0].len();
+    for model in ["sc", "tso"] {
+        assert_eq!(length(&format!("sequencer-plain-{model}")), 51);
+        assert_eq!(length(&format!("sequencer-fenced-{model}")), 52);
+    }
+    assert_eq!(LONGEST.map(length), [64, 64]);
+    assert_eq!(LONGEST.map(|name| Parts::of(name).critical(0)), [64, 64]);
+}
+
+#[test]
+fn without_its_guard_a_sequencer_fails_under_sc() {
+    for name in ["sequencer-plain-sc", "sequencer-fenced-sc"] {
+        for thread in 0..2 {
+            let mut parts = Parts::of(name);
+            // The JEQ before the owning place leads away from it while the other asks.
+            let guard = parts.critical(thread) - 1;
+            assert_eq!(parts.programs[thread][guard][0], 8, "{name} {thread}");
+            parts.programs[thread][guard] = NOTHING;
+            assert_eq!(answer(&parts.file()), REACHABLE, "{name} {thread}");
+        }
+    }
+}
+
+#[test]
+fn what_is_signed_from_sc_holds_for_every_capacity() {
+    for capacity in 1..=8 {
+        let mut parts = Parts::of("sequencer-fenced-tso");
+        parts.memory[1] = capacity;
+        assert_eq!(answer(&parts.file()), UNREACHABLE, "C {capacity}");
+    }
+}
+
+#[test]
+fn where_no_fence_has_room_an_exchange_takes_the_place_of_the_store() {
+    let [plain, fenced] = LONGEST.map(Parts::of);
+    let stores = plain.programs[0].iter().enumerate();
+    let stores: Vec<usize> = stores
+        .filter(|(_, quad)| matches!(quad[0], 4 | 5))
+        .map(|(place, _)| place)
+        .collect();
+    assert_eq!(stores, [61]);
+    let mut exchanged = plain.programs[0].clone();
+    exchanged[61][0] = 7;
+    assert_eq!(exchanged, fenced.programs[0]);
+    assert_eq!(
+        plain.job.programs[1],
+        without_fences(&fenced.job.programs[1])
+    );
+    let answers = LONGEST.map(|name| (answer(&stored(name)), fences(&stored(name))));
+    assert_eq!(answers[0], (REACHABLE, [2, 0, 61, 62]));
+    assert_eq!(answers[1], (UNREACHABLE, [1, 0, 0, 0]));
+}
+
+#[test]
+fn the_thread_of_65_is_the_longest_sequencer_with_a_fence_put_in() {
+    let mut parts = Parts::of(LONGEST[0]);
+    // Behind the store at 61; what lies above it moves by one, in the jump and in the clause.
+    parts.programs[0].insert(62, [6, 0, 0, 0]);
+    parts.programs[0][64][2] += 1;
+    parts.clauses[0][3] += 1;
+    assert_eq!(stored("refused-thread-of-65"), parts.file());
+    let n = 7 + parts.initial.len();
+    let refused = format!("REFUSED 4 {n}\nHOLD\n");
+    assert_eq!(bench_lines(&parts.file()), refused);
+}
+
+#[test]
+fn the_shortest_way_to_the_sequencers_fault_is_as_told_in_the_readme() {
+    for (name, executions) in [("sequencer-plain-tso", 48), (LONGEST[0], 63)] {
+        let output = bench_lines(&stored(name));
+        let way = output.lines().nth(1).unwrap();
+        let told = format!("{}01 01 01 04 0D", "00 ".repeat(executions));
+        assert_eq!(way, told, "{name}");
     }
 }

@@ -2,6 +2,7 @@
 
 mod common;
 use common::*;
+use second::job::LONGEST_FILE;
 use second::listed::{blank_goals, fewest_and_most_clauses};
 use second::{decode, fences, replay, Refusal};
 
@@ -10,6 +11,8 @@ fn refused(bytes: &[u8]) -> Option<(u8, usize)> {
         .err()
         .map(|Refusal { number, offset }| (number, offset))
 }
+
+const FENCE: [u8; 4] = [6, 0, 0, 0];
 
 /// One thread with one instruction, two variables; the instruction begins at 10.
 fn with_instruction(instruction: [u8; 4]) -> Option<(u8, usize)> {
@@ -26,19 +29,62 @@ fn length_is_judged_first() {
     for bytes in [&[][..], &[0], &[0, 0], &[0, 2, 9], &[0, 0, 9], &[1, 0, 9]] {
         assert_eq!(refused(bytes), Some((1, 0)));
     }
-    let mut too_long = with_length(&[9; 596]);
+    // Two bytes less follow the length field than the file has.
+    let mut too_long = with_length(&[9; LONGEST_FILE - 1]);
     assert_eq!(refused(&too_long), Some((1, 0)));
-    too_long.truncate(597);
+    too_long.truncate(LONGEST_FILE);
     assert_eq!(refused(&too_long), Some((1, 0)));
-    assert_eq!(refused(&with_length(&[9; 595])), Some((2, 2)));
+    let just_fits = with_length(&[9; LONGEST_FILE - 2]);
+    assert_eq!(refused(&just_fits), Some((2, 2)));
+}
+
+/// A file with all counts at their most, as request 2 gives them.
+fn longest_file() -> Vec<u8> {
+    let program = [FENCE; 64];
+    job(tso(8), &[1; 8], &[&program[..]; 4], 1, &[[1, 3, 0, 64]; 16])
 }
 
 #[test]
-fn the_longest_file_is_accepted() {
-    let program = [[6, 0, 0, 0]; 32];
-    let bytes = job(tso(8), &[1; 8], &[&program[..]; 4], 1, &[[1, 3, 0, 32]; 16]);
-    assert_eq!(bytes.len(), 597);
-    assert_eq!(refused(&bytes), None);
+fn the_longest_file_is_accepted_and_one_byte_more_is_not() {
+    let longest = longest_file();
+    assert_eq!(longest.len(), 1109);
+    assert_eq!(LONGEST_FILE, 1109);
+    assert_eq!(refused(&longest), None);
+    // 1,110 bytes, with a length field that counts the one more and with one that doesn't.
+    let counted = with_length(&[&longest[2..], &[0]].concat());
+    assert_eq!(refused(&counted), Some((1, 0)));
+    let uncounted = [&longest[..], &[0]].concat();
+    assert_eq!(refused(&uncounted), Some((1, 0)));
+}
+
+#[test]
+fn the_longest_file_with_a_wrong_length_field() {
+    let right = LONGEST_FILE as u16 - 2;
+    for wrong in [0, right - 1, right + 1, right + 2, u16::MAX] {
+        let mut bytes = longest_file();
+        bytes[..2].copy_from_slice(&u16::to_be_bytes(wrong));
+        assert_eq!(refused(&bytes), Some((1, 0)), "{wrong}");
+    }
+}
+
+#[test]
+fn faults_are_found_at_the_end_of_the_longest_file() {
+    let set = |at: usize, value: u8| {
+        let mut bytes = longest_file();
+        bytes[at] = value;
+        refused(&bytes)
+    };
+    // The head and the values take 15 bytes and each thread 257; then flag, K and clauses.
+    let last_n = 15 + 3 * 257;
+    let last_instruction = last_n + 1 + 4 * 63;
+    let flag = last_n + 257;
+    assert_eq!(set(last_n, 65), Some((4, last_n)));
+    assert_eq!(set(last_instruction, 10), Some((4, last_instruction)));
+    assert_eq!(set(flag, 2), Some((5, flag)));
+    assert_eq!(set(flag + 1, 17), Some((5, flag + 1)));
+    let last_clause = LONGEST_FILE - 4;
+    assert_eq!(set(flag + 1, 15), Some((6, last_clause)));
+    assert_eq!(set(last_clause + 3, 65), Some((5, last_clause)));
 }
 
 #[test]
@@ -89,11 +135,62 @@ fn header_ranges() {
 
 #[test]
 fn program_lengths() {
-    let fence = [6, 0, 0, 0];
-    let with_programs = |programs: &[&[[u8; 4]]]| refused(&job(SC, &[0], programs, 0, &ANY_GOAL));
-    assert_eq!(with_programs(&[&[fence; 32]]), None);
-    assert_eq!(with_programs(&[&[fence; 33]]), Some((4, 8)));
-    assert_eq!(with_programs(&[&[fence; 2], &[fence; 33]]), Some((4, 17)));
+    for length in 0..=64 {
+        assert_eq!(with_programs(&[&vec![FENCE; length]]), None, "{length}");
+    }
+    let too_long = [FENCE; 65];
+    assert_eq!(with_programs(&[&too_long]), Some((4, 8)));
+    assert_eq!(with_programs(&[&[FENCE; 2], &too_long]), Some((4, 17)));
+    assert_eq!(with_programs(&[&[FENCE; 64], &too_long]), Some((4, 265)));
+    let fourth: [&[[u8; 4]]; 4] = [&[FENCE; 64], &[], &[FENCE; 51], &too_long];
+    assert_eq!(with_programs(&fourth), Some((4, 8 + 257 + 1 + 205)));
+}
+
+fn with_programs(programs: &[&[[u8; 4]]]) -> Option<(u8, usize)> {
+    refused(&job(SC, &[0], programs, 0, &ANY_GOAL))
+}
+
+#[test]
+fn a_thread_of_65_is_refused_before_what_is_missing_behind_it() {
+    let whole = job(SC, &[0], &[&[FENCE; 65]], 0, &ANY_GOAL);
+    // The file may end right behind n, in an instruction, or between two of them.
+    for count in [9, 10, 12, 13, 9 + 4 * 64, 9 + 4 * 64 + 3, whole.len()] {
+        assert_eq!(refused(&with_length(&whole[2..count])), Some((4, 8)));
+    }
+    // Whether n is there comes first, and so does the length.
+    assert_eq!(refused(&with_length(&whole[2..8])), Some((6, 8)));
+    assert_eq!(refused(&whole[..whole.len() - 1]), Some((1, 0)));
+    // With n = 64 the same file is read on, and ends where the goal's flag is looked for.
+    let mut fewer = whole;
+    fewer[8] = 64;
+    assert_eq!(refused(&fewer), Some((5, 9 + 4 * 64)));
+    fewer.truncate(9 + 4 * 63 + 3);
+    assert_eq!(refused(&with_length(&fewer[2..])), Some((6, 9 + 4 * 63)));
+}
+
+/// A thread of so many fences behind another of one, with this instruction at its last place.
+fn ending_with(length: usize, instruction: [u8; 4]) -> Option<(u8, usize)> {
+    let mut program = vec![FENCE; length];
+    program[length - 1] = instruction;
+    with_programs(&[&[FENCE], &program])
+}
+
+#[test]
+fn jumps_and_place_clauses_go_up_to_n() {
+    for length in [1, 32, 33, 51, 63, 64] {
+        let n = length as u8;
+        // The second thread's n stands behind 8 bytes and a thread of 5.
+        let instruction = Some((4, 8 + 5 + 1 + 4 * (length - 1)));
+        for jump in [8, 9] {
+            assert_eq!(ending_with(length, [jump, 0, n, 0]), None, "{length}");
+            assert_eq!(ending_with(length, [jump, 0, n + 1, 0]), instruction);
+        }
+        let program = vec![FENCE; length];
+        let ask = |place| job(SC, &[0], &[&[FENCE], &program], 0, &[[1, 1, 0, place]]);
+        assert_eq!(refused(&ask(n)), None, "{length}");
+        let clause = ask(n + 1).len() - 4;
+        assert_eq!(refused(&ask(n + 1)), Some((5, clause)), "{length}");
+    }
 }
 
 #[test]

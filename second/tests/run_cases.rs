@@ -1,7 +1,14 @@
 //! The run cases: lines that a person says, and that every kind of case is among them.
 
-use second::job::Model;
-use second::listed::{blank_goals, refused_jobs, ROOM_FOR_JOB};
+use second::fences::{open_pairs, OpenPair};
+use second::job::{Instruction, Job, Model};
+use second::listed::{blank_goals, refused_jobs, too_long_threads, MEMORIES, ROOM_FOR_JOB};
+use second::long_threads::{
+    Counts, FULL_SIZE, HELD_HIGH, HIGH_CLAUSE, HIGH_END, HIGH_EXCHANGE, HIGH_FENCE, HIGH_GOAL,
+    HIGH_LOAD, HIGH_STORE, HIGH_TARGET, LONG_THREAD, ONE_TOO_MANY,
+};
+use second::machine::SLOT_BYTES;
+use second::random::Sizes;
 use second::{decode, fence_cases, job_cases, replay_cases, search_cases};
 use std::collections::{BTreeMap, BTreeSet};
 
@@ -26,7 +33,7 @@ const UNTOUCHED: &str = "SUMS 101856759 3514663550 1007328511\n";
 #[test]
 fn refused_jobs_are_decoded_and_searched_as_a_person_says() {
     let cases = search_cases::all();
-    for (job, [number, offset]) in [refused_jobs(), blank_goals()].concat() {
+    for (job, [number, offset]) in [refused_jobs(), blank_goals(), too_long_threads()].concat() {
         let line = format!("REFUSED {number} {offset}\n");
         assert_eq!(job_cases::line(&job), line, "{job:?}");
         let rooms: Vec<_> = cases.iter().filter(|case| case.job == job).collect();
@@ -41,17 +48,187 @@ fn refused_jobs_are_decoded_and_searched_as_a_person_says() {
 
 #[test]
 fn blank_goals_are_among_the_cases_of_all_four() {
+    for jobs in jobs_of_all_four() {
+        for (blank, _) in blank_goals() {
+            assert!(jobs.contains(&blank), "{blank:?}");
+        }
+    }
+}
+
+#[test]
+fn threads_of_65_are_among_the_cases_of_all_four() {
+    for jobs in jobs_of_all_four() {
+        for (too_long, _) in too_long_threads() {
+            assert!(jobs.contains(&too_long), "{too_long:?}");
+        }
+    }
+}
+
+/// The jobs of the decoder's, the search's, the replay's and the fence check's cases.
+fn jobs_of_all_four() -> [Vec<Vec<u8>>; 4] {
     let searched = search_cases::all().into_iter().map(|case| case.job);
     let replayed = replay_cases::all().into_iter().map(|case| case.job);
-    let all = [
+    [
         job_cases::all(),
         searched.collect(),
         replayed.collect(),
         fence_cases::all(),
-    ];
-    for jobs in all {
-        for (blank, _) in blank_goals() {
-            assert!(jobs.contains(&blank), "{blank:?}");
+    ]
+}
+
+#[test]
+fn every_long_length_is_among_the_cases_of_all_four() {
+    for jobs in jobs_of_all_four() {
+        let accepted = jobs.iter().filter_map(|job| decode(job).ok());
+        let lengths: BTreeSet<usize> = accepted
+            .flat_map(|job| job.programs.into_iter().map(|program| program.len()))
+            .collect();
+        assert!((33..=64).all(|length| lengths.contains(&length)));
+    }
+}
+
+/// The bounds are somewhat below what there is, so that no class can shrink away unnoticed.
+#[test]
+fn long_threads_are_often_enough_among_the_cases_of_all_four() {
+    assert_counts(
+        job_cases::counts_of_long_threads(),
+        2_000,
+        &[
+            (LONG_THREAD, 120),
+            (FULL_SIZE, 10),
+            (HIGH_FENCE, 60),
+            (HIGH_EXCHANGE, 60),
+            (HIGH_TARGET, 70),
+            (HIGH_CLAUSE, 100),
+            (ONE_TOO_MANY, 10),
+        ],
+    );
+    assert_counts(
+        search_cases::counts_of_long_threads(),
+        1_200,
+        &[
+            (LONG_THREAD, 170),
+            (FULL_SIZE, 7),
+            (HIGH_FENCE, 20),
+            (HIGH_EXCHANGE, 3),
+            (HIGH_TARGET, 20),
+            (HIGH_CLAUSE, 150),
+            (ONE_TOO_MANY, 8),
+            (HIGH_GOAL, 90),
+        ],
+    );
+    assert_counts(
+        replay_cases::counts_of_long_threads(),
+        5_000,
+        &[
+            (LONG_THREAD, 450),
+            (FULL_SIZE, 40),
+            (HIGH_FENCE, 60),
+            (HIGH_EXCHANGE, 60),
+            (HIGH_TARGET, 200),
+            (HIGH_CLAUSE, 350),
+            (ONE_TOO_MANY, 20),
+            (HIGH_END, 350),
+        ],
+    );
+    assert_counts(
+        fence_cases::counts_of_long_threads(),
+        5_000,
+        &[
+            (LONG_THREAD, 1_000),
+            (FULL_SIZE, 40),
+            (HIGH_FENCE, 200),
+            (HIGH_EXCHANGE, 150),
+            (HIGH_TARGET, 600),
+            (HIGH_CLAUSE, 500),
+            (ONE_TOO_MANY, 5),
+            (HIGH_STORE, 150),
+            (HIGH_LOAD, 170),
+            (HELD_HIGH, 150),
+        ],
+    );
+}
+
+fn assert_counts(counts: Counts, cases: usize, least: &[(&str, usize)]) {
+    assert!(counts.cases >= cases, "{counts:?}");
+    assert_eq!(counts.of_classes.len(), least.len(), "{counts:?}");
+    for (&(class, count), &(named, least)) in counts.of_classes.iter().zip(least) {
+        assert_eq!(class, named);
+        assert!(count >= least, "only {count} of {class}");
+    }
+}
+
+#[test]
+fn every_high_place_is_a_store_a_load_and_a_fence_that_decides() {
+    let (mut stores, mut loads) = (BTreeSet::new(), BTreeSet::new());
+    let mut closers = BTreeSet::new();
+    for bytes in fence_cases::all() {
+        if let Ok(job) = decode(&bytes) {
+            // Of all open pairs the answer names the least.
+            match open_pairs(&job).into_iter().next() {
+                Some(OpenPair { store, load, .. }) => {
+                    stores.insert(store);
+                    loads.insert(load);
+                }
+                None => closers.extend(deciding_fences(&job)),
+            }
+        }
+    }
+    // Behind a store or a fence at place 63 there is only the end, so neither can decide.
+    assert!((32..=62).all(|place| stores.contains(&place)), "{stores:?}");
+    assert!((32..=63).all(|place| loads.contains(&place)), "{loads:?}");
+    for barrier in ["FENCE", "XCHG"] {
+        assert!((32..=62).all(|place| closers.contains(&(barrier, place))));
+    }
+    assert!(!stores.contains(&63) && !closers.contains(&("FENCE", 63)));
+}
+
+/// The barriers of a job without open pairs of which each alone keeps one closed.
+fn deciding_fences(job: &Job) -> Vec<(&'static str, usize)> {
+    let mut deciding = Vec::new();
+    for (thread, program) in job.programs.iter().enumerate() {
+        for (place, instruction) in program.iter().enumerate() {
+            let name = match instruction {
+                Instruction::Fence => "FENCE",
+                Instruction::Exchange { .. } => "XCHG",
+                _ => continue,
+            };
+            let mut without = job.clone();
+            without.programs[thread][place] = Instruction::Set {
+                register: 0,
+                value: 0,
+            };
+            if !open_pairs(&without).is_empty() {
+                deciding.push((name, place));
+            }
+        }
+    }
+    deciding
+}
+
+#[test]
+fn the_longest_ways_are_searched_as_a_person_says() {
+    for count in [51, 64] {
+        for memory in MEMORIES {
+            let job = search_cases::long_way(memory, count);
+            let first_line = |slots: usize| {
+                let sizes = Sizes {
+                    table: slots * SLOT_BYTES,
+                    links: slots,
+                    schedule: slots,
+                };
+                let case = search_cases::Case {
+                    sizes,
+                    job: job.clone(),
+                };
+                let lines = search_cases::lines(&case);
+                lines.lines().next().unwrap().to_string()
+            };
+            // One state a step, and the start.
+            assert_eq!(first_line(count), format!("UNKNOWN {count}"));
+            let found = format!("REACHABLE {count} {}", count + 1);
+            assert_eq!(first_line(count + 1), found);
+            assert_eq!(first_line(count + 2), found);
         }
     }
 }

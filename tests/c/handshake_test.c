@@ -235,7 +235,7 @@ static void refused(const uint8_t *job, size_t size, uint64_t number, uint64_t o
 
 static void refusals(void) {
     static const uint8_t version[] = {0x00, 0x01, 0x02}, cut[] = {0x00, 0x01, 0x01};
-    static const uint8_t longest[597] = {0x02, 0x53, 0x02}, too_long[598] = {0x02, 0x54, 0x01};
+    static const uint8_t longest[1109] = {0x04, 0x53, 0x02}, too_long[1110] = {0x04, 0x54, 0x01};
     uint8_t job[sizeof P1];
     refused(P1, 0, 1, 0);
     refused(P1, 2, 1, 0);
@@ -278,6 +278,70 @@ static void blank_goals(void) {
     refused(job, K, 6, K);
 }
 
+/* The longest file: TSO, C 8, eight variables, four threads of 64 times SET r0 = 0, and 16 times the clause that thread 0 is at place 0. */
+enum { LONGEST = 64, THREAD = 1 + 4 * LONGEST, FIRST_N = 15, FILE_SIZE = FIRST_N + 4 * THREAD + 2 + 4 * 16 };
+static void make_longest(uint8_t job[FILE_SIZE]) {
+    memset(job, 0, FILE_SIZE);
+    job[0] = (FILE_SIZE - 2) / 256, job[1] = (FILE_SIZE - 2) % 256, job[2] = 1, job[3] = 1, job[4] = 8, job[5] = 4, job[6] = 8;
+    for (size_t t = 0; t < 4; t++) {
+        job[FIRST_N + t * THREAD] = LONGEST;
+        for (size_t p = 0; p < LONGEST; p++) job[FIRST_N + t * THREAD + 1 + 4 * p] = 1;
+    }
+    job[FILE_SIZE - 4 * 16 - 1] = 16;
+    for (size_t k = 0; k < 16; k++) job[FILE_SIZE - 4 * 16 + 4 * k] = 1;
+}
+
+/* Threads of 64: a file of 1,109 bytes is accepted, one byte more is refused by 1, n = 65 by 4 at its own offset, and place 65 by a jump and
+ * by a clause. Thread 3 runs to place 64 alone. A store and a load at its last places are open, and a jump back or a FENCE decides as before. */
+static void long_threads(void) {
+    uint8_t job[FILE_SIZE + 1], steps[LONGEST + 1];
+    uint64_t answer[4];
+    uint8_t *last = job + FIRST_N + 3 * THREAD + 1, *clause = job + FILE_SIZE - 4;
+    CHECK(FILE_SIZE == 1109);
+    make_longest(job);
+    replay(job, FILE_SIZE, NULL, 0, answer);
+    CHECK(answer_is(answer, 1, 0, 0, 0));
+    for (size_t t = 0; t < 4; t++) {
+        job[FIRST_N + t * THREAD] = LONGEST + 1;
+        refused(job, FILE_SIZE, 4, FIRST_N + t * THREAD);
+        job[FIRST_N + t * THREAD] = LONGEST;
+    }
+    for (uint8_t op = 8; op <= 9; op++) {
+        last[0] = op, last[2] = LONGEST;
+        fences(job, FILE_SIZE, answer);
+        CHECK(answer_is(answer, 1, 0, 0, 0));
+        last[2] = LONGEST + 1;
+        refused(job, FILE_SIZE, 4, (uint64_t)(last - job));
+    }
+    make_longest(job);
+    job[FILE_SIZE] = 0, job[1]++;
+    refused(job, FILE_SIZE + 1, 1, 0);
+    job[1]--;
+    for (size_t k = 0; k < 16; k++) job[FILE_SIZE - 4 * 16 + 4 * k + 1] = 3, job[FILE_SIZE - 4 * 16 + 4 * k + 3] = LONGEST;
+    memset(steps, 3, sizeof steps);
+    replay(job, FILE_SIZE, steps, LONGEST, answer);
+    CHECK(answer_is(answer, 1, 0, 0, 0));
+    replay(job, FILE_SIZE, steps, LONGEST - 1, answer);
+    CHECK(answer_is(answer, 2, 0, 0, 0));
+    replay(job, FILE_SIZE, steps, LONGEST + 1, answer);
+    CHECK(answer_is(answer, 3, LONGEST, 0, 0));
+    clause[3] = LONGEST + 1;
+    refused(job, FILE_SIZE, 5, (uint64_t)(clause - job));
+    make_longest(job);
+    last[4 * 62] = 5, last[4 * 63] = 3;
+    fences(job, FILE_SIZE, answer);
+    CHECK(answer_is(answer, 2, 3, 62, 63));
+    last[4 * 62] = 6, last[0] = 5;
+    fences(job, FILE_SIZE, answer);
+    CHECK(answer_is(answer, 1, 0, 0, 0));
+    last[4 * 62] = 5, last[4 * 63] = 9, last[0] = 3;
+    fences(job, FILE_SIZE, answer);
+    CHECK(answer_is(answer, 2, 3, 62, 0));
+    last[4 * 62] = 1, last[4 * 63] = 5;
+    fences(job, FILE_SIZE, answer);
+    CHECK(answer_is(answer, 1, 0, 0, 0));
+}
+
 /* Nothing lent: refusal 7 for whichever buffer is empty, and 1 to 6 before it. NULL stands for an empty buffer. */
 static void empty_buffers(void) {
     static const uint8_t version[] = {0x00, 0x01, 0x02};
@@ -315,6 +379,7 @@ int main(void) {
         fence_checks();
         refusals();
         blank_goals();
+        long_threads();
         empty_buffers();
     }
     printf("%d checks hold\n", checks);

@@ -241,7 +241,7 @@ open-of code s store m r met least =
           let h = least .holds l in
           let w = met .sound r (h .1) in
           record { store = store; load = h .0; between = w .0; walk = w .1 };
-      before = λ i l o. least .before i l (o .load, met .complete i (load-inside o) (o .between, o .walk));
+      before = λ i l o. least .before i l (o .load, met .complete i (omega (arith, load-inside o)) (o .between, o .walk));
     }
 
 -- The least pair of a thread.

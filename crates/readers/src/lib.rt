@@ -23,7 +23,7 @@ ghost use Rattle.readers.specs.Stages.{length-stage, capacity-stage, hea
 
 // The refusals of 01, by number; the search has one more.
 
-// "fewer than 3 bytes, more than 597, or length wrong"
+// "fewer than 3 bytes, more than 597, or length wrong"; request 2: "the longest file becomes 1,109 bytes"
 pub const LENGTH_WRONG: u8 = 1;
 
 // "version not 1"
@@ -32,7 +32,7 @@ pub const VERSION_WRONG: u8 = 2;
 // "model, C, T or V out of range"
 pub const HEAD_OUT_OF_RANGE: u8 = 3;
 
-// "n above 32 (offset of n), or an instruction with a bad op, operand or zero byte"
+// "n above 32 (offset of n), or an instruction with a bad op, operand or zero byte"; request 2: "n = 65 is refusal 4"
 pub const THREAD_BAD: u8 = 4;
 
 // "flag not 0 or 1, K above 16, or a bad clause"; request 8: "K = 0 is refusal 5"

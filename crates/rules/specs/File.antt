@@ -162,7 +162,7 @@ module _ (bytes : List ℕ) where
         clauses = clauses;
       })
 
-  -- "fewer than 3 bytes, more than 597, or length wrong"; the length is the "number of bytes that follow", big-endian
+  -- "fewer than 3 bytes, more than 597, or length wrong", by request 2 more than 1,109; the length is the "number of bytes that follow", big-endian
   unfoldable pub length-ok : Bool
   length-ok = leb shortest-file (length bytes) && leb (length bytes) longest-file && eqb (byte 0 * byte-values + byte 1 + length-size) (length bytes)
 

@@ -1,6 +1,6 @@
 -- The jobs of 01's bench list, byte for byte, and some beyond it.
 use mathlib.Core.List.{List, [], _∷_, _++_}
-use Prim.Native.Nat.{ℕ}
+use Prim.Native.Nat.{ℕ, zero, suc}
 use lib.ListN.{set, take}
 
 -- P1, store buffering: x=1, load y against y=1, load x; both loads 0 at the end
@@ -356,28 +356,82 @@ eight-sets =
     ∷ 0x01 ∷ 0x00 ∷ 0x00 ∷ 0x00 ∷ 0x01 ∷ 0x00 ∷ 0x00 ∷ 0x00 ∷ 0x01 ∷ 0x00 ∷ 0x00 ∷ 0x00 ∷ 0x01 ∷ 0x00 ∷ 0x00 ∷ 0x00
     ∷ []
 
--- a thread as long as it may be: n and 32 instructions
-unfoldable pub full-thread : List ℕ
-full-thread = (0x20 ∷ []) ++ eight-sets ++ eight-sets ++ eight-sets ++ eight-sets
+unfoldable pub sixty-four-sets : List ℕ
+sixty-four-sets = eight-sets ++ eight-sets ++ eight-sets ++ eight-sets ++ eight-sets ++ eight-sets ++ eight-sets ++ eight-sets
 
--- SC: one such thread; goal place 32
-unfoldable pub thirty-two : List ℕ
-thirty-two =
-    -- length 141, version 1, SC, C 0, 1 thread, 1 variable, 0
-    (0x00 ∷ 0x8D ∷ 0x01 ∷ 0x00 ∷ 0x00 ∷ 0x01 ∷ 0x01 ∷ 0x00 ∷ [])
+-- a thread as long as it may be: n and 64 instructions
+unfoldable pub full-thread : List ℕ
+full-thread = (0x40 ∷ []) ++ sixty-four-sets
+
+-- SC: one such thread; goal place 64
+unfoldable pub sixty-four : List ℕ
+sixty-four =
+    -- length 269, version 1, SC, C 0, 1 thread, 1 variable, 0
+    (0x01 ∷ 0x0D ∷ 0x01 ∷ 0x00 ∷ 0x00 ∷ 0x01 ∷ 0x01 ∷ 0x00 ∷ [])
     ++ full-thread
     -- any buffers, 1 clause
-    ++ (0x00 ∷ 0x01 ∷ 0x01 ∷ 0x00 ∷ 0x00 ∷ 0x20 ∷ [])
+    ++ (0x00 ∷ 0x01 ∷ 0x01 ∷ 0x00 ∷ 0x00 ∷ 0x40 ∷ [])
+
+-- the same with one SET more; goal place 65
+unfoldable pub sixty-five : List ℕ
+sixty-five =
+    -- length 273, version 1, SC, C 0, 1 thread, 1 variable, 0
+    (0x01 ∷ 0x11 ∷ 0x01 ∷ 0x00 ∷ 0x00 ∷ 0x01 ∷ 0x01 ∷ 0x00 ∷ [])
+    ++ (0x41 ∷ [])
+    ++ sixty-four-sets
+    ++ (0x01 ∷ 0x00 ∷ 0x00 ∷ 0x00 ∷ [])
+    -- any buffers, 1 clause
+    ++ (0x00 ∷ 0x01 ∷ 0x01 ∷ 0x00 ∷ 0x00 ∷ 0x41 ∷ [])
+
+-- SC: a full thread, and one with a load; goal thread 0 at place 64
+unfoldable pub next-door : List ℕ
+next-door =
+    -- length 274, version 1, SC, C 0, 2 threads, 1 variable, 0
+    (0x01 ∷ 0x12 ∷ 0x01 ∷ 0x00 ∷ 0x00 ∷ 0x02 ∷ 0x01 ∷ 0x00 ∷ [])
+    ++ full-thread
+    -- thread 1: load x
+    ++ (0x01 ∷ 0x03 ∷ 0x00 ∷ 0x00 ∷ 0x00 ∷ [])
+    -- any buffers, 1 clause
+    ++ (0x00 ∷ 0x01 ∷ 0x01 ∷ 0x00 ∷ 0x00 ∷ 0x40 ∷ [])
+
+-- SC: a thread of 51; goal place 51
+unfoldable pub fifty-one : List ℕ
+fifty-one =
+    -- length 217, version 1, SC, C 0, 1 thread, 1 variable, 0
+    (0x00 ∷ 0xD9 ∷ 0x01 ∷ 0x00 ∷ 0x00 ∷ 0x01 ∷ 0x01 ∷ 0x00 ∷ [])
+    -- 51 times SET
+    ++ (0x33 ∷ [])
+    ++ eight-sets ++ eight-sets ++ eight-sets ++ eight-sets ++ eight-sets ++ eight-sets
+    ++ (0x01 ∷ 0x00 ∷ 0x00 ∷ 0x00 ∷ 0x01 ∷ 0x00 ∷ 0x00 ∷ 0x00 ∷ 0x01 ∷ 0x00 ∷ 0x00 ∷ 0x00 ∷ [])
+    -- any buffers, 1 clause
+    ++ (0x00 ∷ 0x01 ∷ 0x01 ∷ 0x00 ∷ 0x00 ∷ 0x33 ∷ [])
+
+-- at each of the places 1 to p a JMP to the place before it
+unfoldable pub jumps-down : ℕ → List ℕ
+jumps-down zero = []
+jumps-down (suc p) = jumps-down p ++ (0x09 ∷ 0x00 ∷ p ∷ 0x00 ∷ [])
+
+-- a thread of 64 in which the way from the store to the load leads down over every place
+unfoldable pub down-the-stairs : List ℕ
+down-the-stairs =
+    -- length 269, version 1, SC, C 0, 1 thread, 1 variable, 0
+    (0x01 ∷ 0x0D ∷ 0x01 ∷ 0x00 ∷ 0x00 ∷ 0x01 ∷ 0x01 ∷ 0x00 ∷ [])
+    -- load at place 0, JMPs, x=1 at place 62, JMP to 61
+    ++ (0x40 ∷ 0x03 ∷ 0x00 ∷ 0x00 ∷ 0x00 ∷ [])
+    ++ jumps-down 61
+    ++ (0x05 ∷ 0x00 ∷ 0x00 ∷ 0x01 ∷ 0x09 ∷ 0x00 ∷ 0x3D ∷ 0x00 ∷ [])
+    -- any buffers, 1 clause
+    ++ (0x00 ∷ 0x01 ∷ 0x01 ∷ 0x00 ∷ 0x00 ∷ 0x00 ∷ [])
 
 -- thread 0 is at place 0, four times
 unfoldable pub four-clauses : List ℕ
 four-clauses = 0x01 ∷ 0x00 ∷ 0x00 ∷ 0x00 ∷ 0x01 ∷ 0x00 ∷ 0x00 ∷ 0x00 ∷ 0x01 ∷ 0x00 ∷ 0x00 ∷ 0x00 ∷ 0x01 ∷ 0x00 ∷ 0x00 ∷ 0x00 ∷ []
 
--- the longest file, 597 bytes; the goal holds at the start
+-- the longest file, 1,109 bytes; the goal holds at the start
 unfoldable pub fullest : List ℕ
 fullest =
-    -- length 595, version 1, TSO, C 8, 4 threads, 8 variables, all 0
-    (0x02 ∷ 0x53 ∷ 0x01 ∷ 0x01 ∷ 0x08 ∷ 0x04 ∷ 0x08 ∷ 0x00 ∷ 0x00 ∷ 0x00 ∷ 0x00 ∷ 0x00 ∷ 0x00 ∷ 0x00 ∷ 0x00 ∷ [])
+    -- length 1,107, version 1, TSO, C 8, 4 threads, 8 variables, all 0
+    (0x04 ∷ 0x53 ∷ 0x01 ∷ 0x01 ∷ 0x08 ∷ 0x04 ∷ 0x08 ∷ 0x00 ∷ 0x00 ∷ 0x00 ∷ 0x00 ∷ 0x00 ∷ 0x00 ∷ 0x00 ∷ 0x00 ∷ [])
     ++ full-thread ++ full-thread ++ full-thread ++ full-thread
     -- any buffers, 16 clauses
     ++ (0x00 ∷ 0x10 ∷ [])

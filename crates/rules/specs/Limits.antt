@@ -19,9 +19,9 @@ values = 256
 abbrev pub byte-values : ℕ
 byte-values = 256
 
--- "A thread has n instructions (0 to 32)"
+-- n is 0 to 64: request 2, "Threads are too short", in place of 01's "A thread has n instructions (0 to 32)"
 abbrev pub longest-thread : ℕ
-longest-thread = 32
+longest-thread = 64
 
 -- "TSO (model 1, C is 1 to 8)", "PSO (model 2, C is 1 to 8)"
 abbrev pub most-pending : ℕ
@@ -53,7 +53,7 @@ head-size = shortest-file + 4
 abbrev pub item-size : ℕ
 item-size = 4
 
--- "The longest file is 597 bytes": the head, the variables, the threads, flag, K, the clauses
+-- request 2, "the longest file becomes 1,109 bytes": the head, the variables, the threads, flag, K, the clauses
 abbrev pub longest-file : ℕ
 longest-file = head-size + most-variables + most-threads * (1 + item-size * longest-thread) + 1 + 1 + item-size * most-clauses
 

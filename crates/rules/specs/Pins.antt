@@ -5,13 +5,13 @@ use mathlib.Core.List.{List, [], _∷_, _++_}
 use Prim.Native.Nat.{ℕ, _+_, _^_}
 use lib.ListN.{set, take, replicate}
 use Rattle.reach.specs.Replay.{reaches, falls-short, stuck}
-use Rattle.rules.specs.Limits.{longest-file, slot-size, step-bound, most-slots}
+use Rattle.rules.specs.Limits.{longest-thread, longest-file, slot-size, step-bound, most-slots}
 use Rattle.rules.specs.Slot.{pair-bytes, buffer-bytes, buffers-bytes, slot-bytes}
 use Rattle.rules.specs.State.{State, register}
 use Rattle.rules.specs.Fences.{fenced, open-at}
 use Rattle.rules.specs.Jobs.{p1, p2, p3, p4, p5, p6, p9, p10, p12, p9-sc, p9-sc-drained, p2-drained, no-instruction, waits-apart, three-to-one, own-newest, fence-waits, exchange, jump-over, either-order, oldest-first, stored-register}
 use Rattle.rules.specs.Jobs.{exchange-between, ends-and-moves, back-around, past-a-load, next-of-two, over-a-fence}
-use Rattle.rules.specs.Jobs.{in-memory, other-registers, widest, thirty-two, fullest, too-long, cut, cut-unknown, left-over}
+use Rattle.rules.specs.Jobs.{in-memory, other-registers, widest, sixty-four, sixty-five, next-door, fifty-one, down-the-stairs, fullest, too-long, cut, cut-unknown, left-over}
 use Rattle.rules.specs.Jobs.{two-lengths, lengths-turned, nine-stores, behind-a-jump, two-stores-open, two-threads-open, last-thread-open, last-of-all, third-drains, highest-values, round-to-zero}
 use Rattle.rules.specs.Claims.{search-reaches, search-never, search-unknown, slots-follow, links-are, fences-say, replay-says, slot-after, enabled-after, refuses, Case, case}
 
@@ -201,15 +201,61 @@ pins =
     ∷ case 640 widest (search-reaches 16 (0x00 ∷ 0x01 ∷ 0x02 ∷ 0x03 ∷ []))
     -- n 0 is accepted
     ∷ case 640 no-instruction (search-reaches 1 [])
-    -- n 32 is accepted, and a clause of place 32
-    ∷ case 640 thirty-two (search-reaches 33 (replicate 32 0x00))
+    -- n 64 is accepted, and a clause of place 64
+    ∷ case 640 sixty-four (search-reaches 65 (replicate 64 0x00))
+    -- the slot has place 64
+    ∷ case 640 sixty-four (slot-after (replicate 64 0x00) ((64 ∷ []) ++ replicate 95 0))
+    -- place 64 of thread 2 is its end, and not thread 3's place 0
+    ∷ case 640 fullest (replay-says (replicate 65 0x02) (stuck 64))
+    -- JMP to place 64
+    ∷ case 640 (set (set sixty-four 9 0x09) 11 0x40) (search-reaches 2 (0x00 ∷ []))
+    -- JEQ to place 64
+    ∷ case 640 (set (set sixty-four 9 0x08) 11 0x40) (search-reaches 2 (0x00 ∷ []))
+    -- JMP from the last place to place 64
+    ∷ case 640 (set (set sixty-four 261 0x09) 263 0x40) (search-reaches 65 (replicate 64 0x00))
+    -- n 51 is accepted, and a clause of place 51
+    ∷ case 640 fifty-one (search-reaches 52 (replicate 51 0x00))
+    -- JMP to place 51
+    ∷ case 640 (set (set fifty-one 9 0x09) 11 0x33) (search-reaches 2 (0x00 ∷ []))
+    -- a store at the last place but one, a load at the last
+    ∷ case 640 (set (set sixty-four 257 0x05) 261 0x03) (fences-say (open-at 0 62 63))
+    -- from the first place to the last
+    ∷ case 640 (set (set sixty-four 9 0x05) 261 0x03) (fences-say (open-at 0 0 63))
+    -- a FENCE at place 62 between them
+    ∷ case 640 (set (set (set sixty-four 9 0x05) 257 0x06) 261 0x03) (fences-say fenced)
+    -- JMP at the last place, to a load at the first
+    ∷ case 640 (set (set (set sixty-four 257 0x05) 261 0x09) 9 0x03) (fences-say (open-at 0 62 0))
+    -- and on from there: a load at place 1
+    ∷ case 640 (set (set (set sixty-four 257 0x05) 261 0x09) 13 0x03) (fences-say (open-at 0 62 1))
+    -- a walk over every place, each below the one before
+    ∷ case 640 down-the-stairs (fences-say (open-at 0 62 0))
+    -- a pair in the middle
+    ∷ case 640 (set (set sixty-four 137 0x05) 141 0x03) (fences-say (open-at 0 32 33))
+    -- a FENCE at place 32
+    ∷ case 640 (set (set (set sixty-four 9 0x05) 137 0x06) 261 0x03) (fences-say fenced)
+    -- XCHG at place 62
+    ∷ case 640 (set (set (set sixty-four 9 0x05) 257 0x07) 261 0x03) (fences-say fenced)
+    -- place 64 holds no instruction, and is not place 0: a load there, a store at place 63
+    ∷ case 640 (set (set sixty-four 261 0x05) 9 0x03) (fences-say fenced)
+    -- a SET at place 63 behind the store
+    ∷ case 640 (set (set sixty-four 257 0x05) 9 0x03) (fences-say fenced)
+    -- JEQ there, to place 64
+    ∷ case 640 (set (set (set (set sixty-four 257 0x05) 261 0x08) 263 0x40) 9 0x03) (fences-say fenced)
+    -- JMP to place 64 behind the store
+    ∷ case 640 (set (set (set (set sixty-four 9 0x03) 13 0x05) 17 0x09) 19 0x40) (fences-say fenced)
+    -- nor is it place 63: a load there, JMP to place 64 behind the store
+    ∷ case 640 (set (set (set (set sixty-four 9 0x05) 13 0x09) 15 0x40) 261 0x03) (fences-say fenced)
+    -- JEQ to place 64, and a FENCE behind it
+    ∷ case 640 (set (set (set (set (set sixty-four 9 0x05) 13 0x08) 15 0x40) 17 0x06) 261 0x03) (fences-say fenced)
+    -- nor the next thread's place 0: a load there, a store at place 63
+    ∷ case 640 (set next-door 261 0x05) (fences-say fenced)
     -- a clause of kind 1 asks for the n of its own thread
     ∷ case 640 two-lengths (search-reaches 5 (0x01 ∷ 0x01 ∷ []))
     -- not of another that is longer
     ∷ case 640 (set two-lengths 25 0x00) (refuses 5 24)
     -- not of the first
     ∷ case 640 lengths-turned (refuses 5 24)
-    -- 597 bytes are accepted
+    -- 1,109 bytes are accepted
     ∷ case 640 fullest (replay-says [] reaches)
     -- TSO with C 8 is accepted
     ∷ case 640 (set p1 4 0x08) (search-reaches 22 (0x00 ∷ 0x00 ∷ 0x01 ∷ 0x01 ∷ []))
@@ -217,7 +263,7 @@ pins =
     ∷ case 640 (set p6 4 0x08) (search-reaches 25 (0x00 ∷ 0x00 ∷ 0x05 ∷ 0x01 ∷ 0x01 ∷ []))
     -- two bytes are too few, whatever they say
     ∷ case 640 (0x00 ∷ 0x00 ∷ []) (refuses 1 0)
-    -- 598 bytes are too many
+    -- 1,110 bytes are too many
     ∷ case 640 too-long (refuses 1 0)
     -- a length that is one too great
     ∷ case 640 (set p1 1 0x2C) (refuses 1 0)
@@ -263,8 +309,32 @@ pins =
     ∷ case 640 (set p1 6 0x00) (refuses 3 6)
     -- V to 8
     ∷ case 640 (set p1 6 0x09) (refuses 3 6)
-    -- n to 32
-    ∷ case 640 (set thirty-two 8 0x21) (refuses 4 8)
+    -- n to 64
+    ∷ case 640 sixty-five (refuses 4 8)
+    -- n is not 128
+    ∷ case 640 (set sixty-four 8 0x80) (refuses 4 8)
+    -- n is judged before its instructions: none is there
+    ∷ case 640 (set (set (take 9 sixty-five) 0 0x00) 1 0x07) (refuses 4 8)
+    -- of thread 1 at its own offset
+    ∷ case 640 (set fullest 272 0x41) (refuses 4 272)
+    -- of thread 2
+    ∷ case 640 (set fullest 529 0x41) (refuses 4 529)
+    -- of thread 3
+    ∷ case 640 (set fullest 786 0x41) (refuses 4 786)
+    -- JMP to place 65
+    ∷ case 640 (set (set sixty-four 9 0x09) 11 0x41) (refuses 4 9)
+    -- JEQ to place 65
+    ∷ case 640 (set (set sixty-four 9 0x08) 11 0x41) (refuses 4 9)
+    -- JMP to place 65 from the last place
+    ∷ case 640 (set (set sixty-four 261 0x09) 263 0x41) (refuses 4 261)
+    -- a clause of place 65
+    ∷ case 640 (set sixty-four 270 0x41) (refuses 5 267)
+    -- with n 51 a JMP to place 52
+    ∷ case 640 (set (set fifty-one 9 0x09) 11 0x34) (refuses 4 9)
+    -- a JEQ to place 52
+    ∷ case 640 (set (set fifty-one 9 0x08) 11 0x34) (refuses 4 9)
+    -- a clause of place 52
+    ∷ case 640 (set fifty-one 218 0x34) (refuses 5 215)
     -- operation 0, with an operand that is not 0, is none
     ∷ case 640 (set p1 10 0x00) (refuses 4 10)
     -- operation 255 likewise
@@ -403,9 +473,9 @@ pins =
     ∷ case 640 (set (set (take 43 p1) 1 41) 29 0x04) (refuses 5 29)
     ∷ []
 
--- The numbers that 01 says outright.
-pub numbers-are : (longest-file ≡ 597) × (slot-size ≡ 96) × (step-bound ≡ 36) × (most-slots ≡ 65536)
-numbers-are = (refl, refl, refl, refl)
+-- The numbers that 01 and request 2 say outright.
+pub numbers-are : (longest-thread ≡ 64) × (longest-file ≡ 1109) × (slot-size ≡ 96) × (step-bound ≡ 36) × (most-slots ≡ 65536)
+numbers-are = (refl, refl, refl, refl, refl)
 
 -- a state with another number in each part
 unfoldable pub each-apart : State

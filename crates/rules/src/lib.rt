@@ -14,8 +14,8 @@ pub const VALUES: usize = 256;
 // The values of a byte of the file.
 pub const BYTE_VALUES: usize = 256;
 
-// "A thread has n instructions (0 to 32)"
-pub const LONGEST_THREAD: u8 = 32;
+// n is 0 to 64: request 2, "Threads are too short".
+pub const LONGEST_THREAD: u8 = 64;
 
 // "TSO (model 1, C is 1 to 8)", "PSO (model 2, C is 1 to 8)"
 pub const MOST_PENDING: u8 = 8;
@@ -44,7 +44,7 @@ pub const THREADS: usize = MOST_THREADS as usize;
 
 pub const VARIABLES: usize = MOST_VARIABLES as usize;
 
-// "The longest file is 597 bytes": the head, the variables, the threads, flag, K, the clauses.
+// "The longest file becomes 1,109 bytes": the head, the variables, the threads, flag, K, the clauses.
 pub const LONGEST_FILE: usize = HEAD_SIZE
     + VARIABLES
     + THREADS * (1 + ITEM_SIZE * LONGEST_THREAD as usize)

@@ -1,11 +1,12 @@
 //! Writes the cases that a proved program is run on, and the output that this checker expects of it.
 
+use second::long_threads::counts_line;
 use second::{fence_cases, job_cases, replay_cases, search_cases};
 use std::path::Path;
 use std::process::ExitCode;
 use std::{env, fs, io};
 
-const USAGE: &str = "use one of (each writes DIR/stdin and DIR/stdout):
+const USAGE: &str = "use one of (each writes DIR/stdin and DIR/stdout, and prints how many cases have long threads):
   cases job DIR
   cases search DIR
   cases replay DIR
@@ -17,17 +18,29 @@ fn main() -> ExitCode {
         [kind, folder] => (kind, folder),
         _ => return fail(USAGE),
     };
-    let (cases, lines) = match kind.as_str() {
+    let kind = match kind.as_str() {
         "job" => of_decoder(),
         "search" => of_search(),
         "replay" => of_replay(),
         "fences" => of_fence_check(),
         _ => return fail(USAGE),
     };
-    match write_both(Path::new(folder), &cases, &lines) {
-        Ok(()) => ExitCode::SUCCESS,
+    match write_both(Path::new(folder), &kind) {
+        Ok(()) => {
+            println!("{}", kind.counts);
+            ExitCode::SUCCESS
+        }
         Err(fault) => fail(&format!("cannot write into {folder}: {fault}")),
     }
+}
+
+/// All cases of one kind.
+struct Kind {
+    cases: Vec<u8>,
+    /// What the program under test has to print.
+    lines: String,
+    /// How many of the cases have long threads.
+    counts: String,
 }
 
 fn fail(message: &str) -> ExitCode {
@@ -35,43 +48,47 @@ fn fail(message: &str) -> ExitCode {
     ExitCode::from(2)
 }
 
-fn write_both(folder: &Path, cases: &[u8], lines: &str) -> io::Result<()> {
-    fs::write(folder.join("stdin"), cases)?;
-    fs::write(folder.join("stdout"), lines)
+fn write_both(folder: &Path, kind: &Kind) -> io::Result<()> {
+    fs::write(folder.join("stdin"), &kind.cases)?;
+    fs::write(folder.join("stdout"), &kind.lines)
 }
 
-fn of_decoder() -> (Vec<u8>, String) {
+fn of_decoder() -> Kind {
     let cases = job_cases::all();
-    let bytes = cases.iter().flat_map(|job| counted(job)).collect();
-    let lines = cases.iter().map(|job| job_cases::line(job)).collect();
-    (bytes, lines)
+    Kind {
+        cases: cases.iter().flat_map(|job| counted(job)).collect(),
+        lines: cases.iter().map(|job| job_cases::line(job)).collect(),
+        counts: counts_line("job_cases", &job_cases::counts_of_long_threads()),
+    }
 }
 
-fn of_search() -> (Vec<u8>, String) {
+fn of_search() -> Kind {
     let cases = search_cases::all();
-    let bytes = cases.iter().flat_map(sized).collect();
-    let lines = cases.iter().map(search_cases::lines).collect();
-    (bytes, lines)
+    Kind {
+        cases: cases.iter().flat_map(sized).collect(),
+        lines: cases.iter().map(search_cases::lines).collect(),
+        counts: counts_line("search_cases", &search_cases::counts_of_long_threads()),
+    }
 }
 
-fn of_replay() -> (Vec<u8>, String) {
+fn of_replay() -> Kind {
     let cases = replay_cases::all();
-    let bytes = cases.iter().flat_map(scheduled).collect();
-    let lines = cases
-        .iter()
-        .map(|case| replay_cases::line(case) + "\n")
-        .collect();
-    (bytes, lines)
+    let lines = cases.iter().map(|case| replay_cases::line(case) + "\n");
+    Kind {
+        cases: cases.iter().flat_map(scheduled).collect(),
+        lines: lines.collect(),
+        counts: counts_line("replay_cases", &replay_cases::counts_of_long_threads()),
+    }
 }
 
-fn of_fence_check() -> (Vec<u8>, String) {
+fn of_fence_check() -> Kind {
     let cases = fence_cases::all();
-    let bytes = cases.iter().flat_map(|job| counted(job)).collect();
-    let lines = cases
-        .iter()
-        .map(|job| fence_cases::line(job) + "\n")
-        .collect();
-    (bytes, lines)
+    let lines = cases.iter().map(|job| fence_cases::line(job) + "\n");
+    Kind {
+        cases: cases.iter().flat_map(|job| counted(job)).collect(),
+        lines: lines.collect(),
+        counts: counts_line("fence_cases", &fence_cases::counts_of_long_threads()),
+    }
 }
 
 /// A job as a case holds it: a count of two bytes, and the job.
