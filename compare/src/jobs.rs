@@ -295,7 +295,7 @@ fn with_near_goal(random: &mut Random, job: Vec<u8>) -> Vec<u8> {
     })
 }
 
-/// The longest walk to a far goal in a job of few steps.
+/// The longest walk to a far goal where no thread is meant to come to its end.
 const FAR: usize = 40;
 
 /// All places and some more of the state at a long walk's end, so that few states are goals.

@@ -225,16 +225,18 @@ pub fn too_long_threads() -> Vec<Refused> {
     let fence = [6, 0, 0, 0];
     let long = vec![fence; MOST_INSTRUCTIONS];
     let too_long = vec![fence; MOST_INSTRUCTIONS + 1];
+    let middle = vec![fence; 51];
     let job = |programs: &[Program]| file([TSO, 1], &[0], programs, 0, &[AT_THE_START]);
     let first = job(slice::from_ref(&too_long));
-    // Head and value take 8 bytes, so the first n stands there.
+    // Head and value take 8 bytes, so the first n stands there; a thread has its n, and four bytes an instruction.
+    let size = |program: &Program| 1 + 4 * program.len() as u64;
     let cut = |count: usize| settled(first[..count].to_vec());
     vec![
         (first.clone(), [4, 8]),
-        (job(&[long.clone(), too_long.clone()]), [4, 8 + 257]),
+        (job(&[long.clone(), too_long.clone()]), [4, 8 + size(&long)]),
         (
-            job(&[vec![], long, vec![fence; 51], too_long]),
-            [4, 8 + 1 + 257 + 205],
+            job(&[vec![], long.clone(), middle.clone(), too_long]),
+            [4, 8 + 1 + size(&long) + size(&middle)],
         ),
         // What n holds is judged before what is missing behind it.
         (cut(9), [4, 8]),

@@ -263,8 +263,8 @@ fn without_its_guard_a_classic_fails_under_sc() {
 
 #[test]
 fn no_fence_of_a_fenced_handshake_is_idle() {
-    for handshake in handshakes() {
-        let name = format!("{handshake}-fenced-tso");
+    let names = handshakes().map(|handshake| format!("{handshake}-fenced-tso"));
+    for name in names.chain([LONGEST[1].to_string()]) {
         assert_eq!(fences(&stored(&name))[0], 1, "{name}");
         let whole = Parts::of(&name);
         for thread in 0..2 {
@@ -301,9 +301,11 @@ fn the_sequencers_have_the_lengths_that_their_names_and_request_2_say() {
 
 #[test]
 fn without_its_guard_a_sequencer_fails_under_sc() {
-    for name in ["sequencer-plain-sc", "sequencer-fenced-sc"] {
+    let names = ["sequencer-plain-sc", "sequencer-fenced-sc"];
+    for name in names.into_iter().chain(LONGEST) {
         for thread in 0..2 {
             let mut parts = Parts::of(name);
+            parts.memory = SC;
             // The JEQ before the owning place leads away from it while the other asks.
             let guard = parts.critical(thread) - 1;
             assert_eq!(parts.programs[thread][guard][0], 8, "{name} {thread}");

@@ -1,5 +1,6 @@
 // What the case programs share: how a case is read from standard input. Its numbers are big-endian.
 use libc::STDIN_FILENO;
+use rules::BYTE_VALUES;
 ghost use Prim.Native.Nat.{_<_, _≤_};
 ghost use lib.ListN.{length};
 ghost use Rattle.cases.specs.Number.{Below};
@@ -13,16 +14,10 @@ pub enum Number {
     Ended,
 }
 
-fn wide(x: u8) -> usize
-    ensures { λ r. ⌜ r < 256 ⌝ }
-{
-    x as usize
-}
-
 fn pair(high: u8, low: u8) -> usize
     ensures { λ r. ⌜ r < 65536 ⌝ }
 {
-    wide(high) * 256 + wide(low)
+    readers::wide(high) * BYTE_VALUES + readers::wide(low)
 }
 
 // Whether there were bytes for all of it.
@@ -57,7 +52,7 @@ pub fn read_long() -> Number
 
 // Reads so many bytes to the front of the room, and answers how many there were: none, where there is no room for all.
 pub fn read_front(room: &mut [u8], count: usize) -> usize
-    ensures { λ r. ⌜ r ≤ length (now (room .exit)) ⌝ }
+    ensures { λ r. ⌜ (r ≤ count) × (r ≤ length (now (room .exit))) ⌝ }
 {
     if count > room.len() {
         return 0;

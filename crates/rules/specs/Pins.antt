@@ -212,9 +212,9 @@ pins =
     -- JEQ to place 64
     ∷ case 640 (set (set sixty-four 9 0x08) 11 0x40) (search-reaches 2 (0x00 ∷ []))
     -- JMP from the last place to place 64
-    ∷ case 640 (set (set sixty-four 261 0x09) 263 0x40) (search-reaches 65 (replicate 64 0x00))
+    ∷ case 640 (set (set sixty-four 261 0x09) 263 0x40) (replay-says (replicate 64 0x00) reaches)
     -- n 51 is accepted, and a clause of place 51
-    ∷ case 640 fifty-one (search-reaches 52 (replicate 51 0x00))
+    ∷ case 640 fifty-one (replay-says (replicate 51 0x00) reaches)
     -- JMP to place 51
     ∷ case 640 (set (set fifty-one 9 0x09) 11 0x33) (search-reaches 2 (0x00 ∷ []))
     -- a store at the last place but one, a load at the last
@@ -227,7 +227,7 @@ pins =
     ∷ case 640 (set (set (set sixty-four 257 0x05) 261 0x09) 9 0x03) (fences-say (open-at 0 62 0))
     -- and on from there: a load at place 1
     ∷ case 640 (set (set (set sixty-four 257 0x05) 261 0x09) 13 0x03) (fences-say (open-at 0 62 1))
-    -- a walk over every place, each below the one before
+    -- a walk over every place: up to the last, then down over all others
     ∷ case 640 down-the-stairs (fences-say (open-at 0 62 0))
     -- a pair in the middle
     ∷ case 640 (set (set sixty-four 137 0x05) 141 0x03) (fences-say (open-at 0 32 33))
