@@ -1,5 +1,4 @@
 // Checks the fences of each case on standard input and prints a line for it. A case is a count, two bytes, and then so many bytes.
-use cases::Number;
 use fences::Answer;
 use libc::STDOUT_FILENO;
 
@@ -40,13 +39,11 @@ fn print_line(answer: Answer) {
 
 // One case, read to the front of the room. Whether it was wholly there, and there was room for it.
 fn run_case(room: &mut [u8]) -> bool {
-    let Number::Is(count) = cases::read_short() else {
-        return false;
-    };
-    let end = cases::read_front(room, count);
-    if end < count {
+    let read = cases::read_job(room);
+    if !read.whole {
         return false;
     }
+    let end = read.end;
     print_line(fences::fences(&room[0..end]));
     true
 }

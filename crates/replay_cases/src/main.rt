@@ -48,17 +48,13 @@ fn run_case(schedule: &mut [u8], job: &mut [u8]) -> bool {
     let Number::Is(steps) = cases::read_long() else {
         return false;
     };
-    let Number::Is(count) = cases::read_short() else {
-        return false;
-    };
-    let job_end = cases::read_front(job, count);
-    let schedule_end = cases::read_front(schedule, steps);
-    if job_end < count {
+    let job_read = cases::read_job(job);
+    let schedule_read = cases::read_front(schedule, steps);
+    if !(job_read.whole & schedule_read.whole) {
         return false;
     }
-    if schedule_end < steps {
-        return false;
-    }
+    let job_end = job_read.end;
+    let schedule_end = schedule_read.end;
     print_line(replay::replay(&job[0..job_end], &schedule[0..schedule_end]));
     true
 }

@@ -173,13 +173,11 @@ fn run_case(table: &mut [u8], links: &mut [u32], schedule: &mut [u8], job: &mut 
     let Head::Case(sizes) = read_head() else {
         return false;
     };
-    let Number::Is(count) = cases::read_short() else {
-        return false;
-    };
-    let end = cases::read_front(job, count);
-    if end < count {
+    let read = cases::read_job(job);
+    if !read.whole {
         return false;
     }
+    let end = read.end;
     if sizes.table > table.len() {
         return false;
     }
