@@ -16,11 +16,12 @@ use Rattle.bits.specs.Bits.{Has, Put}
 use Rattle.rules.specs.Kinds.{control-of}
 use Rattle.rules.specs.Step.{instruction-at}
 use Rattle.rules.specs.File.{job-of}
-use Rattle.rules.specs.Fences.{onward, onward-at, successors, role-at}
+use Rattle.rules.specs.Fences.{onward, onward-at, successors, role-at, Passes}
 use Rattle.rules.specs.Keeps.{instruction-of-thread}
 use Rattle.rules.specs.declared.Instr.{Instr}
 use Rattle.rules.specs.declared.Role.{Role}
-use Rattle.rules.specs.declared.Role.the-variants.{Fences, Other}
+use Rattle.rules.specs.declared.Role.the-variants.{Other}
+use Rattle.rules.specs.declared.Passing.{Passing}
 use Rattle.job.specs.Passed.{place-of}
 use Rattle.job.specs.declared.PlaceRead.{PlaceRead}
 use Rattle.job.specs.declared.PlaceRead.the-variants.{Holds, Ended}
@@ -54,18 +55,18 @@ pub successors-at : (code : List Instr) (p : ℕ) (i : Instr) (m r : ℕ)
 unfolding successors onward-at
 successors-at code p i m r e = subst (λ o. Joined (onward-at p o) m r) (sym e)
 
--- whether a walk goes on from a place other than the store
-module _ (m s p : ℕ) {own : Role} (other : ¬ (p ≡ s)) where
-  pub onwards-fence : own ≡ Fences → ¬ (Onwards m s p own)
-  onwards-fence e (inl d) = other d
-  onwards-fence e (inr h) = h .1 e
-
-  pub onwards-met : ¬ (own ≡ Fences) → {b : Bool} → Tells b (Has m p) → Tells b (Onwards m s p own)
-  onwards-met n = tells-same (λ h. inr (h, n)) back
+-- whether a walk goes on from a place other than the first
+module _ (by : Passing) (m s p : ℕ) {own : Role} (other : ¬ (p ≡ s)) where
+  pub onwards-passed : Passes by own → {b : Bool} → Tells b (Has m p) → Tells b (Onwards by m s p own)
+  onwards-passed n = tells-same (λ h. inr (h, n)) back
     where
-      back : Onwards m s p own → Has m p
+      back : Onwards by m s p own → Has m p
       back (inl d) = absurd (other d)
       back (inr h) = h .0
 
-pub onwards-as : (m s p : ℕ) {own r : Role} → own ≡ r → {b : Bool} → Tells b (Onwards m s p own) → Tells b (Onwards m s p r)
-onwards-as m s p e {b} = subst (λ z. Tells b (Onwards m s p z)) e
+  pub onwards-stopped : ¬ (Passes by own) → ¬ (Onwards by m s p own)
+  onwards-stopped n (inl d) = other d
+  onwards-stopped n (inr h) = n (h .1)
+
+pub onwards-as : (by : Passing) (m s p : ℕ) {own r : Role} → own ≡ r → {b : Bool} → Tells b (Onwards by m s p own) → Tells b (Onwards by m s p r)
+onwards-as by m s p e {b} = subst (λ z. Tells b (Onwards by m s p z)) e

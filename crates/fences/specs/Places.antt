@@ -1,4 +1,4 @@
--- The places to which fence-free walks lead from a store, as a set that grows: what it has is met, and at rest it has all.
+-- The places to which walks lead from one place, as a set that grows: what it has is met, and at rest it has all.
 use mathlib.Core.Path.{_≡_, refl, sym, _∙_, subst}
 use mathlib.Core.Logic.{_⊎_, inl, inr}
 use mathlib.Core.Bool.{Bool, true, false, true≢false, false≢true}
@@ -17,11 +17,13 @@ use Rattle.bits.specs.BitLaws.{bit-of-zero}
 use Rattle.rules.specs.Limits.{longest-thread}
 use Rattle.rules.specs.File.{job-of}
 use Rattle.rules.specs.Sound.{JobIn}
-use Rattle.rules.specs.Fences.{onward-at, successors, role-at, Move, Walk, OpenIn, Open, fenced, open-at, ChecksTo}
+use Rattle.rules.specs.Fences.{onward-at, successors, role-at, Move, Passes, Walk, Leads, OpenIn, Open, fenced, open-at, ChecksTo}
 use Rattle.rules.specs.FenceCheck.{move-inside, load-inside, store-inside, least-open}
 use Rattle.rules.specs.declared.Instr.{Instr}
 use Rattle.rules.specs.declared.Role.{Role}
-use Rattle.rules.specs.declared.Role.the-variants.{Stores, Loads, Fences}
+use Rattle.rules.specs.declared.Role.the-variants.{Stores, Loads}
+use Rattle.rules.specs.declared.Passing.{Passing}
+use Rattle.rules.specs.declared.Passing.the-variants.{NoFence}
 use Rattle.fences.specs.declared.Pair.{Pair}
 
 -- the instructions of a thread, none for a thread that the job doesn't have
@@ -85,23 +87,20 @@ joined-two m x k y r p o = record { there = there; only = λ q h. last q (o .onl
     last q (inl e) = inl (inr (inl e))
     last q (inr g) = first q (p .only q g)
 
--- Walks from one store.
+-- Walks from one place, which pass what they may.
 
--- a walk goes on from a place with the role `own`: the store itself, or one that was met and is no fence
-abbrev pub Onwards : (met s p : ℕ) → Role → Type 0
-Onwards met s p own = (p ≡ s) ⊎ (Has met p × (¬ (own ≡ Fences)))
+-- a walk goes on from a place with the role `own`: the first itself, or one that was met and may be passed
+abbrev pub Onwards : Passing → (met s p : ℕ) → Role → Type 0
+Onwards by met s p own = (p ≡ s) ⊎ (Has met p × Passes by own)
 
-module _ (code : List Instr) (s : ℕ) where
-  abbrev pub Leads : ℕ → Type 0
-  Leads q = (between : List ℕ) × Walk code s between q
-
+module _ (by : Passing) (code : List Instr) (s : ℕ) where
   -- each place of the set was met by a walk
   abbrev pub Sound : ℕ → Type 0
-  Sound m = (q : ℕ) → Has m q → Leads q
+  Sound m = (q : ℕ) → Has m q → Leads by code s q
 
   -- if a walk goes on from p, the set has all successors of p that it can have
   abbrev pub ClosedAt : ℕ → ℕ → Type 0
-  ClosedAt m p = Onwards m s p (role-at code p) → (q : ℕ) → q < width → Move code p q → Has m q
+  ClosedAt m p = Onwards by m s p (role-at code p) → (q : ℕ) → q < width → Move code p q → Has m q
 
   -- what a look at the places with P makes of a set: if it adds nothing, the set is closed at each of them
   pub record Grown (P : ℕ → Type 0) (m r : ℕ) : Type 0 where
@@ -112,21 +111,21 @@ module _ (code : List Instr) (s : ℕ) where
   -- the set of the places to which walks lead, complete for the places that hold an instruction: place n holds none, and may have no bit
   pub record Met (m : ℕ) : Type 0 where
     pub sound : Sound m
-    pub complete : (q : ℕ) → q < length code → Leads q → Has m q
+    pub complete : (q : ℕ) → q < length code → Leads by code s q → Has m q
 
 -- a walk with one move more
-walk-on : (code : List Instr) (p : ℕ) (between : List ℕ) (q r : ℕ) →
-    Walk code p between q → ¬ (role-at code q ≡ Fences) → Move code q r → Walk code p (between ++ q ∷ []) r
-walk-on code p [] q r w n m = (w, n, m)
-walk-on code p (x ∷ between) q r w n m = (w .0, w .1, walk-on code x between q r (w .2) n m)
+walk-on : (by : Passing) (code : List Instr) (p : ℕ) (between : List ℕ) (q r : ℕ) →
+    Walk by code p between q → Passes by (role-at code q) → Move code q r → Walk by code p (between ++ q ∷ []) r
+walk-on by code p [] q r w n m = (w, n, m)
+walk-on by code p (x ∷ between) q r w n m = (w .0, w .1, walk-on by code x between q r (w .2) n m)
 
-module _ (code : List Instr) (s : ℕ) where
-  leads-on : (m p q : ℕ) → Sound code s m → Onwards m s p (role-at code p) → Move code p q → Leads code s q
+module _ (by : Passing) (code : List Instr) (s : ℕ) where
+  leads-on : (m p q : ℕ) → Sound by code s m → Onwards by m s p (role-at code p) → Move code p q → Leads by code s q
   leads-on m p q sound (inl e) move = ([], subst (λ z. Move code z q) e move)
-  leads-on m p q sound (inr (h, n)) move = let w = sound p h in (w .0 ++ p ∷ [], walk-on code s (w .0) p q (w .1) n move)
+  leads-on m p q sound (inr (h, n)) move = let w = sound p h in (w .0 ++ p ∷ [], walk-on by code s (w .0) p q (w .1) n move)
 
   -- a look at one place
-  pub grown-on : (m r p : ℕ) → Onwards m s p (role-at code p) → Joined (successors code p) m r → Grown code s (λ q. q ≡ p) m r
+  pub grown-on : (m r p : ℕ) → Onwards by m s p (role-at code p) → Joined (successors code p) m r → Grown by code s (λ q. q ≡ p) m r
   grown-on m r p on joined =
       record {
         sound = sound;
@@ -135,22 +134,22 @@ module _ (code : List Instr) (s : ℕ) where
             λ e q is on′ x fits move. subst (λ z. Has z x) e (joined .there x (subst (λ z. Move code z x) is move) fits);
       }
     where
-      sound : Sound code s m → Sound code s r
+      sound : Sound by code s m → Sound by code s r
       sound k q h = which (joined .only q h)
         where
-          which : (q ∈ successors code p) ⊎ Has m q → Leads code s q
+          which : (q ∈ successors code p) ⊎ Has m q → Leads by code s q
           which (inl move) = leads-on m p q k on move
           which (inr g) = k q g
 
-  pub grown-not : (m p : ℕ) → ¬ (Onwards m s p (role-at code p)) → Grown code s (λ q. q ≡ p) m m
+  pub grown-not : (m p : ℕ) → ¬ (Onwards by m s p (role-at code p)) → Grown by code s (λ q. q ≡ p) m m
   grown-not m p n =
       record {
         sound = λ k. k;
         no-less = omega arith;
-        closed = λ e q is on. absurd (n (subst (λ z. Onwards m s z (role-at code z)) is on));
+        closed = λ e q is on. absurd (n (subst (λ z. Onwards by m s z (role-at code z)) is on));
       }
 
-  pub grown-end : (m p : ℕ) → getElem? code p ≡ none → Grown code s (λ q. q ≡ p) m m
+  pub grown-end : (m p : ℕ) → getElem? code p ≡ none → Grown by code s (λ q. q ≡ p) m m
   unfolding successors onward-at
   grown-end m p e =
       record {
@@ -160,27 +159,27 @@ module _ (code : List Instr) (s : ℕ) where
       }
 
   -- looks at the places one after the other
-  pub grown-none : (m : ℕ) → Grown code s (λ q. q < 0) m m
+  pub grown-none : (m : ℕ) → Grown by code s (λ q. q < 0) m m
   grown-none m = record { sound = λ k. k; no-less = omega arith; closed = λ e p l. absurd (omega arith) }
 
-  pub grown-more : (m k r i : ℕ) → Grown code s (λ q. q < i) m k → Grown code s (λ q. q ≡ i) k r → Grown code s (λ q. q < i + 1) m r
+  pub grown-more : (m k r i : ℕ) → Grown by code s (λ q. q < i) m k → Grown by code s (λ q. q ≡ i) k r → Grown by code s (λ q. q < i + 1) m r
   grown-more m k r i g h = record { sound = λ x. h .sound (g .sound x); no-less = omega (arith, g .no-less, h .no-less); closed = closed }
     where
-      closed : r ≡ m → (p : ℕ) → p < i + 1 → ClosedAt code s m p
+      closed : r ≡ m → (p : ℕ) → p < i + 1 → ClosedAt by code s m p
       closed e p l = which (eq-or-lt-of-le (omega arith))
         where
           still : k ≡ m
           still = omega (arith, g .no-less, h .no-less)
 
-          which : (p ≡ i) ⊎ (p < i) → ClosedAt code s m p
-          which (inl d) = subst (λ z. ClosedAt code s z p) still (h .closed (omega arith) p d)
+          which : (p ≡ i) ⊎ (p < i) → ClosedAt by code s m p
+          which (inl d) = subst (λ z. ClosedAt by code s z p) still (h .closed (omega arith) p d)
           which (inr d) = g .closed still p d
 
-  pub grown-all : (m r i n : ℕ) → i ≡ n → Grown code s (λ q. q < i) m r → Grown code s (λ q. q < n) m r
-  grown-all m r i n e = subst (λ z. Grown code s (λ q. q < z) m r) e
+  pub grown-all : (m r i n : ℕ) → i ≡ n → Grown by code s (λ q. q < i) m r → Grown by code s (λ q. q < n) m r
+  grown-all m r i n e = subst (λ z. Grown by code s (λ q. q < z) m r) e
 
   -- a look that added nothing has met all
-  pub all-met : length code ≤ width → (m r : ℕ) → Sound code s m → Grown code s (λ q. q < length code) m r → r ≤ m → Met code s r
+  pub all-met : length code ≤ width → (m r : ℕ) → Sound by code s m → Grown by code s (λ q. q < length code) m r → r ≤ m → Met by code s r
   all-met fit m r sound g l =
       record {
         sound = g .sound sound;
@@ -190,20 +189,20 @@ module _ (code : List Instr) (s : ℕ) where
       still : r ≡ m
       still = omega (arith, g .no-less)
 
-      has-move : (p q : ℕ) → Onwards m s p (role-at code p) → q < width → Move code p q → Has m q
+      has-move : (p q : ℕ) → Onwards by m s p (role-at code p) → q < width → Move code p q → Has m q
       has-move p q on fits move = g .closed still p (move-inside code p q move) on q fits move
 
       -- a place from which a move leads has an instruction, and so a bit
-      bit : (x : ℕ) (between : List ℕ) (q : ℕ) → Walk code x between q → x < width
+      bit : (x : ℕ) (between : List ℕ) (q : ℕ) → Walk by code x between q → x < width
       bit x [] q w = omega (arith, fit, move-inside code x q w)
       bit x (y ∷ between) q w = omega (arith, fit, move-inside code x y (w .0))
 
-      reached : (between : List ℕ) (p q : ℕ) → Onwards m s p (role-at code p) → q < width → Walk code p between q → Has m q
+      reached : (between : List ℕ) (p q : ℕ) → Onwards by m s p (role-at code p) → q < width → Walk by code p between q → Has m q
       reached [] p q on fits w = has-move p q on fits w
       reached (x ∷ between) p q on fits w =
           reached between x q (inr (has-move p x on (bit x between q (w .2)) (w .0), w .1)) fits (w .2)
 
-  pub sound-none : Sound code s 0
+  pub sound-none : Sound by code s 0
   sound-none q h = absurd (omega (arith, bit-of-zero q))
 
 -- The least.
@@ -231,7 +230,7 @@ MetLoad code m p = (role-at code p ≡ Loads) × Has m p
 
 -- where the store stands, the loads that were met are the open ones
 pub open-of :
-    (code : List Instr) (s : ℕ) → role-at code s ≡ Stores → (m r : ℕ) → Met code s m →
+    (code : List Instr) (s : ℕ) → role-at code s ≡ Stores → (m r : ℕ) → Met NoFence code s m →
     LeastBelow (MetLoad code m) (length code) r → LeastBelow (OpenIn code s) (length code) r
 open-of code s store m r met least =
     record {

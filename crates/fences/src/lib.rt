@@ -3,6 +3,7 @@ use job::Decoded;
 use job::Layout;
 use job::PlaceRead;
 use rules::Control;
+use rules::Passing;
 use rules::Role;
 ghost use mathlib.Core.Path.{_≡_};
 ghost use mathlib.Core.Logic.{_⊎_};
@@ -39,17 +40,27 @@ fn role_at(job: &[u8], l: Layout, t: u8, p: u8) -> Role
     }
 }
 
-// Whether a walk goes on from place p: it is the store itself, or was met and is no fence.
-fn goes_on(met: u64, store: u8, p: u8, own: Role) -> bool
-    ensures { λ r. ⌜ Tells r (Onwards met store p own) ⌝ }
+// Whether a walk may pass an instruction.
+fn passes(by: Passing, own: Role) -> bool
+    ensures { λ r. ⌜ Tells r (rules.Passes by own) ⌝ }
 {
-    if p == store {
+    match by {
+        Passing::Anything => true,
+        Passing::NoFence => { if let Role::Fences = own { false } else { true } }
+    }
+}
+
+// Whether a walk goes on from place p: it is the first itself, or was met and may be passed.
+fn goes_on(by: Passing, met: u64, first: u8, p: u8, own: Role) -> bool
+    ensures { λ r. ⌜ Tells r (Onwards by met first p own) ⌝ }
+{
+    if p == first {
         return true;
     }
-    if let Role::Fences = own {
-        false
-    } else {
+    if passes(by, own) {
         bits::has(met, p)
+    } else {
+        false
     }
 }
 
@@ -69,14 +80,14 @@ fn with_successors(met: u64, p: u8, control: Control) -> u64
 }
 
 // One look at place p.
-fn onward_from(job: &[u8], l: Layout, t: u8, store: u8, p: u8, met: u64) -> u64
+fn onward_from(job: &[u8], l: Layout, t: u8, by: Passing, first: u8, p: u8, met: u64) -> u64
     requires { ⌜ IsAccepted (now job) l ⌝ }
     requires { ⌜ p < 255 ⌝ }
-    ensures { λ r. ⌜ Grown (thread-of (now (job .entry)) t) store (λ q. q ≡ p) met r ⌝ }
+    ensures { λ r. ⌜ Grown by (thread-of (now (job .entry)) t) first (λ q. q ≡ p) met r ⌝ }
 {
     match job::parts::instruction_at(job, l, t, p) {
         PlaceRead::Holds(i) => {
-            if goes_on(met, store, p, kinds::role_of(i)) {
+            if goes_on(by, met, first, p, kinds::role_of(i)) {
                 with_successors(met, p, kinds::control_of(i))
             } else {
                 met
@@ -87,32 +98,32 @@ fn onward_from(job: &[u8], l: Layout, t: u8, store: u8, p: u8, met: u64) -> u64
 }
 
 // One look at each place of the thread.
-fn look(job: &[u8], l: Layout, t: u8, store: u8, earlier: u64) -> u64
+fn look(job: &[u8], l: Layout, t: u8, by: Passing, first: u8, earlier: u64) -> u64
     requires { ⌜ IsAccepted (now job) l ⌝ }
     ensures { λ r. ⌜
-        Grown (thread-of (now (job .entry)) t) store (λ q. q < length (thread-of (now (job .entry)) t)) earlier r
+        Grown by (thread-of (now (job .entry)) t) first (λ q. q < length (thread-of (now (job .entry)) t)) earlier r
         ⌝ }
 {
     let n = job::parts::code_length(job, l, t);
     let mut met = earlier;
     let mut p: u8 = 0;
     while p < n {
-        met = onward_from(job, l, t, store, p, met);
+        met = onward_from(job, l, t, by, first, p, met);
         p += 1;
     }
     met
 }
 
-// All places to which a walk leads from the store: looks, until one finds nothing new.
-fn places_met(job: &[u8], l: Layout, t: u8, store: u8) -> u64
+// All places to which a walk leads from the first: looks, until one finds nothing new.
+fn places_met(job: &[u8], l: Layout, t: u8, by: Passing, first: u8) -> u64
     requires { ⌜ IsAccepted (now job) l ⌝ }
-    ensures { λ r. ⌜ Met (thread-of (now (job .entry)) t) store r ⌝ }
+    ensures { λ r. ⌜ Met by (thread-of (now (job .entry)) t) first r ⌝ }
 {
     let mut earlier: u64 = 0;
-    let mut met = look(job, l, t, store, 0);
+    let mut met = look(job, l, t, by, first, 0);
     while earlier < met {
         earlier = met;
-        met = look(job, l, t, store, met);
+        met = look(job, l, t, by, first, met);
     }
     met
 }
@@ -155,7 +166,7 @@ fn open_load(job: &[u8], l: Layout, t: u8, store: u8) -> u8
         ⌝ }
 {
     if let Role::Stores = role_at(job, l, t, store) {
-        let met = places_met(job, l, t, store);
+        let met = places_met(job, l, t, Passing::NoFence, store);
         least_load(job, l, t, met)
     } else {
         job::parts::code_length(job, l, t)

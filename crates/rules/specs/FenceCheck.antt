@@ -1,7 +1,7 @@
 -- A fence check on lists that has the meaning: the places that a walk reaches are a search of their own.
 use mathlib.Core.Path.{_≡_, refl, sym, _∙_, ap, subst}
-use mathlib.Core.Logic.{_⊎_, inl, inr}
-use mathlib.Core.Bool.{Bool, true, false, cond, _&&_}
+use mathlib.Core.Logic.{_⊎_, inl, inr, _↔_}
+use mathlib.Core.Bool.{Bool, true, false, cond, not, _&&_}
 use mathlib.Core.List.{List, [], _∷_, _++_}
 use mathlib.Core.Option.{Option, none, some}
 use Prim.Native.Nat.{ℕ, zero, suc, _≤_, _<_}
@@ -23,11 +23,13 @@ use Rattle.reach.specs.Promise.{unknown-exactly, never}
 use Rattle.rules.specs.Kinds.{control-of, role-of}
 use Rattle.rules.specs.Step.{given}
 use Rattle.rules.specs.Tests.{three, of-three, given-some, given-none}
-use Rattle.rules.specs.Fences.{onward-at, successors, role-at, Move, Walk, OpenIn, Open, Checked, fenced, open-at, ChecksTo}
+use Rattle.rules.specs.Fences.{onward-at, successors, role-at, Move, Passes, Walk, Leads, OpenIn, Open, Checked, fenced, open-at, ChecksTo}
 use Rattle.rules.specs.Onward.{few-onward}
 use Rattle.rules.specs.declared.Instr.{Instr}
 use Rattle.rules.specs.declared.Role.{Role}
 use Rattle.rules.specs.declared.Role.the-variants.{Stores, Loads, Fences, Other}
+use Rattle.rules.specs.declared.Passing.{Passing}
+use Rattle.rules.specs.declared.Passing.the-variants.{Anything, NoFence}
 
 -- any two answers that the meaning allows are equal
 pub one-fence-answer : (threads : List (List Instr)) (a b : Checked) → ChecksTo threads a → ChecksTo threads b → a ≡ b
@@ -44,7 +46,7 @@ one-fence-answer threads (open-at t s l) (open-at t′ s′ l′) h k = which (e
     which (inr (inl e)) = cc
     which (inr (inr e)) = absurd (h .1 t′ s′ l′ (k .0) e)
 
--- Walks as runs: the state is a place, the steps are its successors by number, and none leads on from a FENCE or XCHG.
+-- Walks as runs: the state is a place, the steps are its successors by number, and none leads on from what a walk may not pass.
 
 -- a test for roles, by a number for each
 unfoldable pub role-number : Role → ℕ
@@ -74,67 +76,84 @@ pub equal-same-role : (r q : Role) → r ≡ q → T (same-role r q)
 unfolding same-role
 equal-same-role r q e = subst (λ z. T (same-role r z)) e (eqb-refl (role-number r))
 
-unfoldable pub move : List Instr → ℕ → ℕ → Option ℕ
-move code k p = cond (same-role (role-at code p) Fences) none (getElem? (successors code p) k)
+-- a test for what a walk may pass
+unfoldable pub passes : Passing → Role → Bool
+passes Anything r = true
+passes NoFence r = not (same-role r Fences)
+
+-- a walk that may pass no fence passes none
+pub passes-no-fence : {r : Role} → Passes NoFence r → ¬ (r ≡ Fences)
+passes-no-fence h e = let d = h e in let z : _≡_ {A = ℕ} 0 1 = cc in omega arith
+
+passes-right : (by : Passing) (r : Role) → T (passes by r) ↔ Passes by r
+unfolding passes
+passes-right Anything r = (λ h e. refl, λ h. tt)
+passes-right NoFence r = which (same-role r Fences) (same-role-equal r Fences) (equal-same-role r Fences)
+  where
+    which : (b : Bool) → (T b → r ≡ Fences) → (r ≡ Fences → T b) → T (not b) ↔ Passes NoFence r
+    which true f g = (λ h. absurd h, λ n. passes-no-fence n (f tt))
+    which false f g = (λ h e. absurd (g e), λ n. tt)
+
+unfoldable pub move : Passing → List Instr → ℕ → ℕ → Option ℕ
+move by code k p = cond (passes by (role-at code p)) (getElem? (successors code p) k) none
 
 few-at : (p : ℕ) (o : Option Instr) → length (onward-at p o) ≤ 2
 unfolding onward-at
 few-at p none = omega arith
 few-at p (some i) = few-onward p (control-of i)
 
-pub move-beyond : (code : List Instr) (k p : ℕ) → 2 ≤ k → move code k p ≡ none
+pub move-beyond : (by : Passing) (code : List Instr) (k p : ℕ) → 2 ≤ k → move by code k p ≡ none
 unfolding move successors
-move-beyond code k p h = which (same-role (role-at code p) Fences)
+move-beyond by code k p h = which (passes by (role-at code p))
   where
-    which : (b : Bool) → cond b none (getElem? (onward-at p (getElem? code p)) k) ≡ none
-    which true = refl
-    which false = at-past (onward-at p (getElem? code p)) k (omega (arith, few-at p (getElem? code p)))
+    which : (b : Bool) → cond b (getElem? (onward-at p (getElem? code p)) k) none ≡ none
+    which true = at-past (onward-at p (getElem? code p)) k (omega (arith, few-at p (getElem? code p)))
+    which false = refl
 
--- a move that can be made: not from a fence, and to a successor
-move-some : (code : List Instr) (k p q : ℕ) → move code k p ≡ some q → (¬ (role-at code p ≡ Fences)) × Move code p q
+-- a move that can be made: from a place that may be passed, and to a successor
+move-some : (by : Passing) (code : List Instr) (k p q : ℕ) → move by code k p ≡ some q → Passes by (role-at code p) × Move code p q
 unfolding move
-move-some code k p q e = which (same-role (role-at code p) Fences) (equal-same-role (role-at code p) Fences) e
+move-some by code k p q e = which (passes by (role-at code p)) (passes-right by (role-at code p) .0) e
   where
     which :
-        (b : Bool) → (role-at code p ≡ Fences → T b) → cond b none (getElem? (successors code p) k) ≡ some q →
-        (¬ (role-at code p ≡ Fences)) × Move code p q
-    which true f e = absurd (none-is-not-some e)
-    which false f e = (f, at-in (successors code p) k q e)
+        (b : Bool) → (T b → Passes by (role-at code p)) → cond b (getElem? (successors code p) k) none ≡ some q →
+        Passes by (role-at code p) × Move code p q
+    which true f e = (f tt, at-in (successors code p) k q e)
+    which false f e = absurd (none-is-not-some e)
 
-some-move : (code : List Instr) (p q : ℕ) → ¬ (role-at code p ≡ Fences) → Move code p q → (k : ℕ) × (move code k p ≡ some q)
+some-move : (by : Passing) (code : List Instr) (p q : ℕ) → Passes by (role-at code p) → Move code p q → (k : ℕ) × (move by code k p ≡ some q)
 unfolding move
-some-move code p q n h = which (same-role (role-at code p) Fences) (same-role-equal (role-at code p) Fences)
+some-move by code p q h m = which (passes by (role-at code p)) (passes-right by (role-at code p) .1 h)
   where
-    which :
-        (b : Bool) → (T b → role-at code p ≡ Fences) → (k : ℕ) × (cond b none (getElem? (successors code p) k) ≡ some q)
-    which true f = absurd (n (f tt))
-    which false f = in-at (successors code p) q h
+    which : (b : Bool) → T b → (k : ℕ) × (cond b (getElem? (successors code p) k) none ≡ some q)
+    which true t = in-at (successors code p) q m
+    which false t = absurd t
 
-abbrev pub walks : List Instr → (s l : ℕ) → System
-walks code s l = record { State = ℕ; start = s; next = move code; goal = λ p. eqb p l }
+abbrev pub walks : Passing → List Instr → (s l : ℕ) → System
+walks by code s l = record { State = ℕ; start = s; next = move by code; goal = λ p. eqb p l }
 
-abbrev searched : List Instr → (s l : ℕ) → Searchable
-searched code s l =
-    record { system = walks code s l; same = eqb; same-equal = eqb→eq; same-refl = eqb-refl; bound = 2; beyond = move-beyond code }
+abbrev searched : Passing → List Instr → (s l : ℕ) → Searchable
+searched by code s l =
+    record { system = walks by code s l; same = eqb; same-equal = eqb→eq; same-refl = eqb-refl; bound = 2; beyond = move-beyond by code }
 
-module _ (code : List Instr) (s l : ℕ) where
-  walk-run : (between : List ℕ) (p q : ℕ) → ¬ (role-at code p ≡ Fences) → Walk code p between q → (w : List ℕ) × (run (walks code s l) w p ≡ some q)
-  walk-run [] p q n h = let k = some-move code p q n h in (k .0 ∷ [], rw (k .1))
+module _ (by : Passing) (code : List Instr) (s l : ℕ) where
+  walk-run : (between : List ℕ) (p q : ℕ) → Passes by (role-at code p) → Walk by code p between q → (w : List ℕ) × (run (walks by code s l) w p ≡ some q)
+  walk-run [] p q n h = let k = some-move by code p q n h in (k .0 ∷ [], rw (k .1))
   walk-run (m ∷ between) p q n h =
-      let k = some-move code p m n (h .0) in
+      let k = some-move by code p m n (h .0) in
       let w = walk-run between m q (h .1) (h .2) in
       (k .0 ∷ w .0, rw (k .1) (w .1))
 
-  run-walk : (k : ℕ) (w : List ℕ) (p q : ℕ) → run (walks code s l) (k ∷ w) p ≡ some q → (between : List ℕ) × Walk code p between q
+  run-walk : (k : ℕ) (w : List ℕ) (p q : ℕ) → run (walks by code s l) (k ∷ w) p ≡ some q → Leads by code p q
   run-walk k [] p q e =
-      let r = andThen-some (move code k p) (run (walks code s l) []) q e in
+      let r = andThen-some (move by code k p) (run (walks by code s l) []) q e in
       let d : r .0 ≡ q = (let f : some (r .0) ≡ some q = r .2 in cc) in
-      ([], subst (Move code p) d (move-some code k p (r .0) (r .1) .1))
+      ([], subst (Move code p) d (move-some by code k p (r .0) (r .1) .1))
   run-walk k (i ∷ w) p q e =
-      let r = andThen-some (move code k p) (run (walks code s l) (i ∷ w)) q e in
-      let m = andThen-some (move code i (r .0)) (run (walks code s l) w) q (r .2) in
+      let r = andThen-some (move by code k p) (run (walks by code s l) (i ∷ w)) q e in
+      let m = andThen-some (move by code i (r .0)) (run (walks by code s l) w) q (r .2) in
       let b = run-walk i w (r .0) q (r .2) in
-      (r .0 ∷ b .0, (move-some code k p (r .0) (r .1) .1, move-some code i (r .0) (m .0) (m .1) .0, b .1))
+      (r .0 ∷ b .0, (move-some by code k p (r .0) (r .1) .1, move-some by code i (r .0) (m .0) (m .1) .0, b .1))
 
 -- all places that any move leads to
 unfoldable pub targets-below : List Instr → ℕ → List ℕ
@@ -160,16 +179,16 @@ move-inside code p q h = which (getElem? code p) refl h
     which none e m = absurd m
     which (some i) e m = at-below code p i e
 
-module _ (code : List Instr) (s l : ℕ) where
+module _ (by : Passing) (code : List Instr) (s l : ℕ) where
   unfoldable pub landings : List ℕ
   landings = s ∷ targets-below code (length code)
 
-  stays : (w : List ℕ) (p q : ℕ) → p ∈ landings → run (walks code s l) w p ≡ some q → q ∈ landings
+  stays : (w : List ℕ) (p q : ℕ) → p ∈ landings → run (walks by code s l) w p ≡ some q → q ∈ landings
   unfolding landings
   stays [] p q h e = let d : p ≡ q = (let f : some p ≡ some q = e in cc) in subst (λ z. z ∈ landings) d h
   stays (k ∷ w) p q h e =
-      let r = andThen-some (move code k p) (run (walks code s l) w) q e in
-      let m = move-some code k p (r .0) (r .1) .1 in
+      let r = andThen-some (move by code k p) (run (walks by code s l) w) q e in
+      let m = move-some by code k p (r .0) (r .1) .1 in
       stays w (r .0) q (inr (targets-has code (length code) p (r .0) (move-inside code p (r .0) m) m)) (r .2)
 
   unfoldable pub found : Answer → Bool
@@ -179,27 +198,27 @@ module _ (code : List Instr) (s l : ℕ) where
 
   -- is there a walk from s to l? As many slots as landings are enough.
   unfoldable pub leads : Bool
-  leads = found (find (searched code s l) (length landings) .answer)
+  leads = found (find (searched by code s l) (length landings) .answer)
 
   some-landing : 1 ≤ length landings
   unfolding landings
   some-landing = omega arith
 
-  leads-run : T leads → (w : List ℕ) × (run (walks code s l) w s ≡ some l)
+  leads-run : T leads → (w : List ℕ) × (run (walks by code s l) w s ≡ some l)
   unfolding leads found
   leads-run h =
-      which (find (searched code s l) (length landings) .answer) (find (searched code s l) (length landings))
-      (find-means (searched code s l) (length landings) some-landing) h
+      which (find (searched by code s l) (length landings) .answer) (find (searched by code s l) (length landings))
+      (find-means (searched by code s l) (length landings) some-landing) h
     where
-      which : (a : Answer) (o : Outcome ℕ) → MeansAt (walks code s l) (length landings) a o → T (found a) → (w : List ℕ) × (run (walks code s l) w s ≡ some l)
+      which : (a : Answer) (o : Outcome ℕ) → MeansAt (walks by code s l) (length landings) a o → T (found a) → (w : List ℕ) × (run (walks by code s l) w s ≡ some l)
       which (reachable d n) o m h =
           let g = m .first .has in
-          (o .schedule, subst (λ z. run (walks code s l) (o .schedule) s ≡ some z) (eqb→eq (g .goal) l (g .holds)) (g .leads))
+          (o .schedule, subst (λ z. run (walks by code s l) (o .schedule) s ≡ some z) (eqb→eq (g .goal) l (g .holds)) (g .leads))
       which (unreachable n) o m h = absurd h
       which (unknown n) o m h = absurd h
 
   -- no more places can be reached than there are landings
-  enough : Outnumber (walks code s l) (length landings) → ⊥
+  enough : Outnumber (walks by code s l) (length landings) → ⊥
   unfolding landings
   enough h =
       let all = no-longer (h .states) landings (h .distinct) (λ q m. let r = h .reached q m in stays (r .way) s q at-start (r .leads)) in
@@ -208,22 +227,22 @@ module _ (code : List Instr) (s l : ℕ) where
       at-start : s ∈ landings
       at-start = inl refl
 
-  run-leads : (w : List ℕ) → run (walks code s l) w s ≡ some l → T leads
+  run-leads : (w : List ℕ) → run (walks by code s l) w s ≡ some l → T leads
   unfolding leads found
   run-leads w e =
-      which (find (searched code s l) (length landings) .answer) refl (find-means (searched code s l) (length landings) some-landing)
+      which (find (searched by code s l) (length landings) .answer) refl (find-means (searched by code s l) (length landings) some-landing)
     where
       which :
-          (a : Answer) → find (searched code s l) (length landings) .answer ≡ a →
-          MeansAt (walks code s l) (length landings) a (find (searched code s l) (length landings)) → T (found a)
+          (a : Answer) → find (searched by code s l) (length landings) .answer ≡ a →
+          MeansAt (walks by code s l) (length landings) a (find (searched by code s l) (length landings)) → T (found a)
       which (reachable d n) f m = tt
       which (unreachable n) f m =
-          absurd (never (walks code s l) (length landings) n (find (searched code s l) (length landings)) m w l e (eqb-refl l))
+          absurd (never (walks by code s l) (length landings) n (find (searched by code s l) (length landings)) m w l e (eqb-refl l))
       which (unknown n) f m =
           absurd
           (enough
-          (unknown-exactly (searched code s l) (length landings) (find (searched code s l) (length landings))
-          (find-means (searched code s l) (length landings) some-landing) .0 (f ∙ ap {B = Answer} unknown (m .gives))))
+          (unknown-exactly (searched by code s l) (length landings) (find (searched by code s l) (length landings))
+          (find-means (searched by code s l) (length landings) some-landing) .0 (f ∙ ap {B = Answer} unknown (m .gives))))
 
 -- The least below a bound: the first number that gives something.
 
@@ -263,7 +282,7 @@ module _ {A : Type 0} (f : ℕ → Option A) where
 
 -- the test of one triple
 unfoldable pub open-test : List Instr → (s l : ℕ) → Bool
-open-test code s l = same-role (role-at code s) Stores && same-role (role-at code l) Loads && leads code s l
+open-test code s l = same-role (role-at code s) Stores && same-role (role-at code l) Loads && leads NoFence code s l
 
 -- the least open load of a store, the least open store of a thread, the least thread that has one
 unfoldable pub open-loads : List Instr → (t s : ℕ) → Option Checked
@@ -321,26 +340,26 @@ module _ (code : List Instr) (s l : ℕ) where
   test-open : open-test code s l ≡ true → OpenIn code s l
   unfolding open-test
   test-open h =
-      let p = three (same-role (role-at code s) Stores) (same-role (role-at code l) Loads) (leads code s l) (rw h tt) in
+      let p = three (same-role (role-at code s) Stores) (same-role (role-at code l) Loads) (leads NoFence code s l) (rw h tt) in
       let st = same-role-equal (role-at code s) Stores (p .0) in
       let ld = same-role-equal (role-at code l) Loads (p .1) in
-      let r = leads-run code s l (p .2) in
+      let r = leads-run NoFence code s l (p .2) in
       let w = walk st ld (r .0) (r .1) in
       record { store = st; load = ld; between = w .0; walk = w .1 }
     where
       -- a walk of no move would end at its own store
-      walk : role-at code s ≡ Stores → role-at code l ≡ Loads → (w : List ℕ) → run (walks code s l) w s ≡ some l → (between : List ℕ) × Walk code s between l
+      walk : role-at code s ≡ Stores → role-at code l ≡ Loads → (w : List ℕ) → run (walks NoFence code s l) w s ≡ some l → Leads NoFence code s l
       walk st ld [] e =
           let d : s ≡ l = (let f : some s ≡ some l = e in cc) in
           absurd (store-is-no-load st (ap (role-at code) d ∙ ld))
-      walk st ld (k ∷ w) e = run-walk code s l k w s l e
+      walk st ld (k ∷ w) e = run-walk NoFence code s l k w s l e
 
   open-tests : OpenIn code s l → T (open-test code s l)
   unfolding open-test
   open-tests o =
-      let w = walk-run code s l (o .between) s l (store-is-no-fence (o .store)) (o .walk) in
-      of-three (same-role (role-at code s) Stores) (same-role (role-at code l) Loads) (leads code s l)
-      (equal-same-role _ _ (o .store)) (equal-same-role _ _ (o .load)) (run-leads code s l (w .0) (w .1))
+      let w = walk-run NoFence code s l (o .between) s l (λ e. absurd (store-is-no-fence (o .store) e)) (o .walk) in
+      of-three (same-role (role-at code s) Stores) (same-role (role-at code l) Loads) (leads NoFence code s l)
+      (equal-same-role _ _ (o .store)) (equal-same-role _ _ (o .load)) (run-leads NoFence code s l (w .0) (w .1))
 
   no-load : (t : ℕ) → given (open-test code s l) (open-at t s l) ≡ none → ¬ (OpenIn code s l)
   no-load t e o = subst T (given-none (open-test code s l) (open-at t s l) e) (open-tests o)

@@ -12,6 +12,8 @@ use Rattle.rules.specs.declared.Control.{Control}
 use Rattle.rules.specs.declared.Control.the-variants.{On, To, ToIf}
 use Rattle.rules.specs.declared.Role.{Role}
 use Rattle.rules.specs.declared.Role.the-variants.{Stores, Loads, Fences, Other}
+use Rattle.rules.specs.declared.Passing.{Passing}
+use Rattle.rules.specs.declared.Passing.the-variants.{Anything, NoFence}
 
 -- "successors of a place are the next one, p for JMP, both for JEQ"
 unfoldable pub onward : ℕ → Control → List ℕ
@@ -35,17 +37,24 @@ role-at code p = elim (getElem? code p) [ none ↦ Other | some i ↦ role-of i 
 abbrev pub Move : List Instr → ℕ → ℕ → Type 0
 Move code p q = q ∈ successors code p
 
--- "a walk of one or more moves": from p to q through the places between, none of them a FENCE or XCHG
-abbrev pub Walk : List Instr → ℕ → List ℕ → ℕ → Type 0
-Walk code p [] q = Move code p q
-Walk code p (m ∷ between) q = Move code p m × (¬ (role-at code m ≡ Fences)) × Walk code m between q
+-- what a walk may pass between its ends: a FENCE or XCHG only if it may pass anything
+abbrev pub Passes : Passing → Role → Type 0
+Passes by r = r ≡ Fences → by ≡ Anything
+
+-- "a walk of one or more moves": from p to q through the places between, each of which it may pass
+abbrev pub Walk : Passing → List Instr → ℕ → List ℕ → ℕ → Type 0
+Walk by code p [] q = Move code p q
+Walk by code p (m ∷ between) q = Move code p m × Passes by (role-at code m) × Walk by code m between q
+
+abbrev pub Leads : Passing → List Instr → ℕ → ℕ → Type 0
+Leads by code p q = (between : List ℕ) × Walk by code p between q
 
 -- "A pair (store place, load place) in one thread is open when a walk .. leads from store to load"; "Every place counts, run or not."
 pub record OpenIn (code : List Instr) (s l : ℕ) : Type 0 where
   pub store : role-at code s ≡ Stores
   pub load : role-at code l ≡ Loads
   pub between : List ℕ
-  pub walk : Walk code s between l
+  pub walk : Walk NoFence code s between l
 
 -- a pair of thread t; it is of the threads alone: "its model makes no difference here"
 pub record Open (threads : List (List Instr)) (t s l : ℕ) : Type 0 where

@@ -114,6 +114,12 @@ pub enum Role {
     Other,
 }
 
+// What a walk of the fence check may pass between its ends: any instruction; any but FENCE and XCHG.
+pub enum Passing {
+    Anything,
+    NoFence,
+}
+
 // A clause of a goal: thread and place; thread, register and value; variable and value.
 pub enum Clause {
     PlaceIs(u8, u8),

@@ -7,9 +7,10 @@ use native.Mathlib.Omega.{arith}
 use lib.ListN.{getElem?}
 use Rattle.rules.specs.State.{Pending}
 use Rattle.rules.specs.Kinds.{control-of, role-of}
-use Rattle.rules.specs.Fences.{onward-at, successors, role-at, Move, Walk}
+use Rattle.rules.specs.Fences.{onward-at, successors, role-at, Move, Passes, Leads}
 use Rattle.rules.specs.FenceCheck.{store-is-no-fence, role-there}
-use Rattle.rules.specs.declared.Role.the-variants.{Stores, Fences}
+use Rattle.rules.specs.declared.Role.the-variants.{Stores}
+use Rattle.rules.specs.declared.Passing.the-variants.{NoFence}
 use Rattle.rules.specs.declared.Source.{Source}
 use Rattle.rules.specs.declared.Instr.{Instr}
 use Rattle.rules.specs.declared.Instr.the-variants.{Store}
@@ -82,20 +83,18 @@ module _ (code : List Instr) where
   unfolding role-of
   store-role a v p e = role-there code p (Store a v) e
 
-  quiet-no-fence : (i : Instr) (p : ℕ) → getElem? code p ≡ some i → Quiet i → ¬ (role-at code p ≡ Fences)
-  quiet-no-fence i p e h f = let d = h .role in let g = role-there code p i e in let z : _≡_ {A = ℕ} 0 1 = cc in omega arith
+  quiet-passed : (i : Instr) (p : ℕ) → getElem? code p ≡ some i → Quiet i → Passes NoFence (role-at code p)
+  quiet-passed i p e h f = absurd (let d = h .role in let g = role-there code p i e in let z : _≡_ {A = ℕ} 0 1 = cc in omega arith)
 
-  ahead-walk : {o q : OwnPart} {b : List Pending} (s : ℕ) → Move code s (o .place) → Ahead code o q b
-      → (between : List ℕ) × Walk code s between (q .place)
+  ahead-walk : {o q : OwnPart} {b : List Pending} (s : ℕ) → Move code s (o .place) → Ahead code o q b → Leads NoFence code s (q .place)
   ahead-walk s h level = ([], h)
   ahead-walk s h (quietly {o = o} i m e k w) =
       let r = ahead-walk (o .place) (move-on i m o e) w in
-      (o .place ∷ r .0, (h, quiet-no-fence i (o .place) e k, r .1))
+      (o .place ∷ r .0, (h, quiet-passed i (o .place) e k, r .1))
   ahead-walk s h (storing {o = o} a v e w) =
       let r = ahead-walk (o .place) (store-on a v o e) w in
-      (o .place ∷ r .0, (h, store-is-no-fence (store-role a v (o .place) e), r .1))
+      (o .place ∷ r .0, (h, λ f. absurd (store-is-no-fence (store-role a v (o .place) e) f), r .1))
 
   -- the walk from the oldest pending store to where the thread is now
-  pub waits-walk : {o q : OwnPart} {p : Pending} {b : List Pending} → Waits code o q p b
-      → (between : List ℕ) × Walk code (o .place) between (q .place)
+  pub waits-walk : {o q : OwnPart} {p : Pending} {b : List Pending} → Waits code o q p b → Leads NoFence code (o .place) (q .place)
   waits-walk {o} w = ahead-walk (o .place) (store-on (w .source) (w .to) o (w .at-store)) (w .ahead)

@@ -32,17 +32,17 @@ returns : tie.Need-returns
 returns c =
     let at = read-holds _ _ _ _ (c .before .before .before .before .before .before .before .before .instruction-at .ensures) (c .before .before .before .before .before .before .i .given .1) in
     let own = c .before .before .before .before .role-of .ensures ∙ sym (role-there _ _ _ at) in
-    grown-on _ _ _ _ _ (onwards-as _ _ _ own (c .before .before .before .goes-on .ensures) .yes (c .before .before .if1 .taken))
+    grown-on _ _ _ _ _ _ (onwards-as _ _ _ _ own (c .before .before .before .goes-on .ensures) .yes (c .before .before .if1 .taken))
     (successors-at _ _ _ _ _ at (rw (c .before .control-of .ensures) at (c .with-successors .ensures)))
 
 returns-2 : tie.Need-returns-2
 returns-2 c =
     let at = read-holds _ _ _ _ (c .before .before .before .before .before .before .instruction-at .ensures) (c .before .before .before .before .i .given .1) in
     let own = c .before .before .role-of .ensures ∙ sym (role-there _ _ _ at) in
-    grown-not _ _ _ _ (onwards-as _ _ _ own (c .before .goes-on .ensures) .no (c .if1 .left))
+    grown-not _ _ _ _ _ (onwards-as _ _ _ _ own (c .before .goes-on .ensures) .no (c .if1 .left))
 
 returns-3 : tie.Need-returns-3
-returns-3 c = grown-end _ _ _ _ (read-ended _ _ _ _ (c .before .before .instruction-at .ensures) (c .enum-told .given .1))
+returns-3 c = grown-end _ _ _ _ _ (read-ended _ _ _ _ (c .before .before .instruction-at .ensures) (c .enum-told .given .1))
 
 pub onward-from-spec : {M : Type 1} → statement M
 onward-from-spec =
