@@ -32,14 +32,15 @@ pub fn job(random: &mut Random, number: u64) -> Vec<u8> {
             damaged(random, job)
         }
         32..=36 => {
-            let job = if random.percent(80) {
-                handshake(random)
-            } else {
-                sequencer(random)
+            let job = match random.below(10) {
+                0..=6 => handshake(random),
+                7 => parked(random),
+                _ => sequencer(random),
             };
             damaged(random, job)
         }
-        37..=54 => sound_job(random),
+        37..=47 => sound_job(random),
+        48..=54 => parked(random),
         55..=60 => sequencer(random),
         61..=72 => {
             let job = sound_job(random);
@@ -55,10 +56,11 @@ pub fn job(random: &mut Random, number: u64) -> Vec<u8> {
 }
 
 fn sound_of_any_shape(random: &mut Random, mut listed: Vec<Vec<u8>>) -> Vec<u8> {
-    match random.below(4) {
+    match random.below(5) {
         0 => sound_job(random),
         1 => handshake(random),
         2 => full_size(random),
+        3 => parked(random),
         _ => {
             listed.retain(|job| decode(job).is_ok());
             listed.swap_remove(random.below(listed.len()))
@@ -257,6 +259,86 @@ fn jump_to(random: &mut Random, places: &[u8]) -> [u8; 4] {
 /// A step of the sequence that touches no variable.
 fn quiet_step(random: &mut Random) -> [u8; 4] {
     [random.pick(&[1, 2]), 3, 0, random.below(3) as u8]
+}
+
+// ---- parked routines: stores and loads that a jump leads over, and jumps that lead back to them ----
+
+/// Threads that are fenced where they are live, mostly, so that what is dead would decide.
+fn parked(random: &mut Random) -> Vec<u8> {
+    let variables = random.between(1, 4);
+    let threads = random.pick(&[1, 1, 2, 2, 3, 4]);
+    let longest = random.pick(&[6, 10, 16, MOST_INSTRUCTIONS]);
+    let programs: Vec<Program> = (0..threads)
+        .map(|_| parked_program(random, variables, longest))
+        .collect();
+    let initial: Vec<u8> = (0..variables).map(|_| random.below(2) as u8).collect();
+    let job = with_any_goal(some_memory(random), &initial, &programs);
+    with_far_goal(random, job, FAR)
+}
+
+fn parked_program(random: &mut Random, variables: usize, longest: usize) -> Program {
+    let mut program = Program::new();
+    let mut routines = vec![0];
+    while program.len() < longest && random.percent(95) {
+        let at = program.len() as u8;
+        let [variable, other] = [(); 2].map(|()| random.below(variables) as u8);
+        let [announce, look] = [[5, 0, variable, 1], [3, 0, other, 0]];
+        let barrier = random.pick(&[[6, 0, 0, 0], [7, 1, variable, 0]]);
+        match random.below(8) {
+            0..=2 => {
+                let routine = routine(random, at + 1, announce, look);
+                routines.push(at + 1);
+                let past = at + 1 + routine.len() as u8;
+                program.push([9, 0, past, 0]);
+                program.extend(routine);
+            }
+            3 | 4 => program.extend([announce, barrier, look]),
+            5 => program.extend([look, [8, 0, at, 1]]),
+            // Runs may always jump here or never; both ways are moves.
+            6 => program.push([8, 2, random.pick(&[at, END, at + 2]), random.below(2) as u8]),
+            _ => program.extend([barrier, quiet_step(random)]),
+        }
+    }
+    program.truncate(longest.saturating_sub(2));
+    if random.percent(40) {
+        // A JMP back ends the live part, and may make a parked routine live.
+        let at = random.below(program.len() + 1);
+        program.truncate(at);
+        program.push([9, 0, random.pick(&routines), 0]);
+        program.extend([[5, 0, 0, 1], [3, 0, 0, 0]]);
+    } else if random.percent(50) {
+        program.push([6, 0, 0, 0]);
+        program.push(jump_to(random, &routines));
+    }
+    program.truncate(longest);
+    within_its_end(with_ends(program))
+}
+
+/// A store and a load that nothing stands between, or a fence; it ends, goes on or goes round.
+fn routine(random: &mut Random, at: u8, announce: [u8; 4], look: [u8; 4]) -> Program {
+    let mut routine = match random.below(4) {
+        0 => vec![announce, [6, 0, 0, 0], look],
+        1 => vec![announce, quiet_step(random), look],
+        2 => vec![quiet_step(random), announce, look],
+        _ => vec![announce, look],
+    };
+    match random.below(4) {
+        0 => routine.push([9, 0, END, 0]),
+        1 => routine.push(jump_to(random, &[at, END])),
+        _ => {}
+    }
+    routine
+}
+
+/// A jump past what was cut off leads to the program's end.
+fn within_its_end(mut program: Program) -> Program {
+    let end = program.len() as u8;
+    for instruction in &mut program {
+        if matches!(instruction[0], 8 | 9) {
+            instruction[2] = instruction[2].min(end);
+        }
+    }
+    program
 }
 
 /// Four threads of the most instructions, which is all that a file holds.

@@ -5,11 +5,9 @@ use crate::call::{Call, Kind};
 use crate::rooms::{self, Room};
 use crate::schedules::LONG;
 use second::job::{Instruction, Model};
-use second::long_threads::{
-    ends_high, of_fence_check, of_job, HIGH_END, HIGH_GOAL, OF_FENCE_CHECKS, OF_JOBS,
-};
+use second::long_threads::{ends_high, HIGH_END, HIGH_GOAL};
 use second::machine::SLOT_BYTES;
-use second::Job;
+use second::{dead_code, long_threads, Job};
 use std::collections::BTreeMap;
 
 type Class = (&'static str, &'static str);
@@ -33,9 +31,11 @@ const BLANK: &str = "blank goals";
 const LONG_THREADS: &str = "long threads";
 const LONG_THREAD_CHECKS: &str = "long threads, checks";
 const LONG_THREAD_RUNS: &str = "long threads, runs";
+const DEAD_CODE: &str = "dead code";
+const DEAD_CODE_CHECKS: &str = "dead code, checks";
 
 /// Every class that is named in the summary, in its order.
-const SECTIONS: [(&str, &[&str]); 21] = [
+const SECTIONS: [(&str, &[&str]); 23] = [
     (JOBS, &["accepted", "refused"]),
     (REFUSED, &["1", "2", "3", "4", "5", "6"]),
     (THREADS, &["1", "2", "3", "4"]),
@@ -50,9 +50,11 @@ const SECTIONS: [(&str, &[&str]); 21] = [
             "a thread of no instructions",
         ],
     ),
-    (LONG_THREADS, &OF_JOBS),
-    (LONG_THREAD_CHECKS, &OF_FENCE_CHECKS),
+    (LONG_THREADS, &long_threads::OF_JOBS),
+    (LONG_THREAD_CHECKS, &long_threads::OF_FENCE_CHECKS),
     (LONG_THREAD_RUNS, &[HIGH_GOAL, HIGH_END]),
+    (DEAD_CODE, &dead_code::OF_JOBS),
+    (DEAD_CODE_CHECKS, &dead_code::OF_FENCE_CHECKS),
     (
         GOALS,
         &["any buffers", "empty buffers", "1 clause", "16 clauses"],
@@ -169,13 +171,18 @@ impl Tally {
         }
     }
 
-    /// What is new about a job since threads have up to 64 instructions, accepted or refused.
-    pub fn long_threads(&mut self, job: &[u8]) {
-        for class in of_job(job) {
-            self.count(LONG_THREADS, class);
-        }
-        for class in of_fence_check(job) {
-            self.count(LONG_THREAD_CHECKS, class);
+    /// What the requests have made new about a job, accepted or refused: long threads, and dead code.
+    pub fn news(&mut self, job: &[u8]) {
+        let of_sections = [
+            (LONG_THREADS, long_threads::of_job(job)),
+            (LONG_THREAD_CHECKS, long_threads::of_fence_check(job)),
+            (DEAD_CODE, dead_code::of_job(job)),
+            (DEAD_CODE_CHECKS, dead_code::of_fence_check(job)),
+        ];
+        for (section, classes) in of_sections {
+            for class in classes {
+                self.count(section, class);
+            }
         }
     }
 

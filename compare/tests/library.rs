@@ -355,3 +355,39 @@ fn the_fence_check_sees_places_up_to_63() {
     assert_eq!(check(&turned(0)), [2, 0, 62, 0]);
     assert_eq!(check(&turned(64)), [1, 0, 0, 0]);
 }
+
+const STORE: [u8; 4] = [5, 0, 0, 1];
+const LOAD: [u8; 4] = [3, 0, 0, 0];
+const FENCE: [u8; 4] = [6, 0, 0, 0];
+
+const fn jump(place: u8) -> [u8; 4] {
+    [9, 0, place, 0]
+}
+
+#[test]
+fn the_fence_check_passes_over_stores_in_dead_code() {
+    let check = |program: &[[u8; 4]]| fences(&asking(program, 0));
+    let fenced = [1, 0, 0, 0];
+    assert_eq!(check(&[jump(3), STORE, LOAD]), fenced);
+    assert_eq!(check(&[jump(2), STORE, LOAD]), fenced);
+    assert_eq!(check(&[jump(0), STORE, LOAD]), fenced);
+    assert_eq!(check(&[jump(4), STORE, LOAD, jump(1)]), fenced);
+    assert_eq!(check(&[STORE, FENCE, jump(2), STORE, LOAD]), fenced);
+    assert_eq!(check(&[jump(3), STORE, LOAD, STORE, LOAD]), [2, 0, 3, 4]);
+    let [dead, live] = [jump(3), jump(1)].map(|first| vec![first, STORE, LOAD]);
+    let goal = [[1, 0, 0, 0]];
+    let both = file(SC, &[0], &[dead.clone(), dead, live], 0, &goal);
+    assert_eq!(fences(&both), [2, 2, 1, 2]);
+}
+
+#[test]
+fn moves_and_not_runs_decide_whether_a_store_is_dead() {
+    let check = |program: &[[u8; 4]]| fences(&asking(program, 0));
+    // A jump back, one through a fence, and a JEQ that always jumps, because registers are 0 at the start.
+    assert_eq!(check(&[jump(3), STORE, LOAD, jump(1)]), [2, 0, 1, 2]);
+    let through_a_fence = [jump(3), STORE, LOAD, FENCE, jump(1)];
+    assert_eq!(check(&through_a_fence), [2, 0, 1, 2]);
+    assert_eq!(check(&[[8, 0, 3, 0], STORE, LOAD]), [2, 0, 1, 2]);
+    // No move leads to place 0, and none has to.
+    assert_eq!(check(&[STORE, LOAD, jump(2)]), [2, 0, 0, 1]);
+}

@@ -5,14 +5,16 @@ use compare::call::{Call, Checker, Kind, Second};
 use compare::hold::hold;
 use compare::jobs;
 use compare::run::{run, Plan, Report};
+use second::fences::{is_barrier, live_places, open_run_or_not, OpenPair};
+use second::job::Instruction;
 use second::listed::{with_byte, P1};
 use second::long_threads::{
-    ends_high, of_job, FULL_SIZE, HIGH_END, HIGH_GOAL, LONG_THREAD, OF_FENCE_CHECKS, OF_JOBS,
-    ONE_TOO_MANY,
+    ends_high, of_job, FULL_SIZE, HIGH_END, HIGH_GOAL, LONG_THREAD, ONE_TOO_MANY,
 };
 use second::machine::SLOT_BYTES;
 use second::random::{Random, Sizes};
-use second::Refusal;
+use second::{dead_code, decode, long_threads, Job, Refusal};
+use std::collections::BTreeSet;
 use std::ops::Range;
 
 /// Answers as the second checker does, and then spoils what it left.
@@ -160,7 +162,7 @@ fn a_blank_goal_that_one_of_the_three_accepts() {
 
 #[test]
 fn bytes_left_over_told_before_a_blank_goal() {
-    first_difference(|call| {
+    first_difference_of(FOR_TWO_FAULTS, |call| {
         let behind = matches!(
             blank(call),
             Some(Blank::Goal {
@@ -247,16 +249,13 @@ fn misreading(change: impl Fn(usize, [u8; 4]) -> [u8; 4] + Sync) -> impl Fn(&mut
     }
 }
 
-fn is_barrier(quad: [u8; 4]) -> bool {
-    matches!(quad[0], 6 | 7)
-}
-
 #[test]
 fn a_fence_check_that_errs_only_above_place_32() {
     let store = |quad: [u8; 4]| matches!(quad[0], 4 | 5);
     let load = |quad: [u8; 4]| quad[0] == 3;
     let jump = |quad: [u8; 4]| matches!(quad[0], 8 | 9);
-    let overlooked: [fn([u8; 4]) -> bool; 4] = [store, load, jump, is_barrier];
+    let barrier = |quad: [u8; 4]| matches!(quad[0], 6 | 7);
+    let overlooked: [fn([u8; 4]) -> bool; 4] = [store, load, jump, barrier];
     for is_overlooked in overlooked {
         first_difference_of(
             FOR_LONG_THREADS,
@@ -321,6 +320,151 @@ fn a_fence_check_that_errs_only_at_place_63() {
             }),
         );
     }
+}
+
+/// Jobs enough to meet what is rare even among dead code.
+const FOR_DEAD_CODE: u64 = 1000;
+
+/// A fence check that answers an accepted job so.
+fn checking(check: impl Fn(&Job) -> Option<OpenPair> + Sync) -> impl Fn(&mut Call) + Sync {
+    move |call| {
+        if let (Kind::Fences, Ok(job)) = (call.kind, decode(call.job.part())) {
+            let words = check(&job).map_or([1, 0, 0, 0], |pair| {
+                [2, pair.thread, pair.store, pair.load].map(|word| word as u64)
+            });
+            set_answer(call, words);
+        }
+    }
+}
+
+/// The least pair whose store is live as `live` has it; it gets a thread's number and program.
+fn least(job: &Job, live: impl Fn(usize, &[Instruction]) -> BTreeSet<usize>) -> Option<OpenPair> {
+    let programs = job.programs.iter().enumerate();
+    let live: Vec<_> = programs.map(|(at, program)| live(at, program)).collect();
+    let mut pairs = open_run_or_not(job).into_iter();
+    pairs.find(|pair| live[pair.thread].contains(&pair.store))
+}
+
+/// What is live when the instructions are taken for others, which have other moves.
+fn live_if(
+    program: &[Instruction],
+    change: impl Fn(usize, Instruction) -> Instruction,
+) -> BTreeSet<usize> {
+    let changed = program.iter().enumerate();
+    let changed: Vec<_> = changed.map(|(place, &old)| change(place, old)).collect();
+    live_places(&changed)
+}
+
+#[test]
+fn the_right_fence_check_by_these_helpers_has_no_difference() {
+    let right = Spoiling(checking(|job| {
+        least(job, |_, program| live_places(program))
+    }));
+    assert_eq!(report(&right, 1000, 1).differences, 0);
+}
+
+#[test]
+fn a_dead_store_that_counts() {
+    let gone = first_difference(checking(|job| open_run_or_not(job).into_iter().next()));
+    assert!(gone.contains("fence check"), "{gone}");
+    // In all threads but the first, and above place 32 alone.
+    first_difference_of(
+        FOR_DEAD_CODE,
+        checking(|job| {
+            least(job, |thread, program| match thread {
+                0 => live_places(program),
+                _ => (0..=64).collect(),
+            })
+        }),
+    );
+    first_difference_of(
+        FOR_DEAD_CODE,
+        checking(|job| {
+            least(job, |_, program| {
+                live_places(program).into_iter().chain(33..=64).collect()
+            })
+        }),
+    );
+}
+
+#[test]
+fn a_dead_store_that_counts_because_something_else_is_live() {
+    // Its load.
+    first_difference_of(
+        FOR_DEAD_CODE,
+        checking(|job| {
+            let mut pairs = open_run_or_not(job).into_iter();
+            pairs.find(|pair| live_places(&job.programs[pair.thread]).contains(&pair.load))
+        }),
+    );
+    // The same place of thread 0.
+    first_difference_of(
+        FOR_DEAD_CODE,
+        checking(|job| least(job, |_, _| live_places(&job.programs[0]))),
+    );
+}
+
+#[test]
+fn a_live_pair_that_a_dead_one_hides() {
+    first_difference_of(
+        FOR_DEAD_CODE,
+        checking(|job| {
+            let least = open_run_or_not(job).into_iter().next()?;
+            let live = live_places(&job.programs[least.thread]);
+            live.contains(&least.store).then_some(least)
+        }),
+    );
+}
+
+#[test]
+fn a_live_store_that_does_not_count() {
+    let stay = |place| Instruction::Jump { target: place };
+    let go_on = Instruction::Fence;
+    // Behind a fence, behind a jump back, and on either way of a JEQ.
+    let fences_stop = move |place, instruction| match instruction {
+        barrier if is_barrier(barrier) => stay(place),
+        other => other,
+    };
+    let never_back = move |place, instruction| match instruction {
+        Instruction::Jump { target } if target < place => stay(place),
+        Instruction::JumpIfEqual { target, .. } if target < place => go_on,
+        other => other,
+    };
+    let jeq_jumps = |_, instruction| match instruction {
+        Instruction::JumpIfEqual { target, .. } => Instruction::Jump { target },
+        other => other,
+    };
+    let jeq_goes_on = move |_, instruction| match instruction {
+        Instruction::JumpIfEqual { .. } => go_on,
+        other => other,
+    };
+    let misread: [&(dyn Fn(usize, Instruction) -> Instruction + Sync); 4] =
+        [&fences_stop, &never_back, &jeq_jumps, &jeq_goes_on];
+    for change in misread {
+        first_difference_of(
+            FOR_DEAD_CODE,
+            checking(move |job| least(job, |_, program| live_if(program, change))),
+        );
+    }
+    // At place 0, to which no move leads.
+    first_difference(checking(|job| {
+        let mut pairs = open_run_or_not(job).into_iter();
+        pairs.find(|pair| {
+            pair.store > 0 && live_places(&job.programs[pair.thread]).contains(&pair.store)
+        })
+    }));
+    // Above place 32.
+    first_difference_of(
+        FOR_LONG_THREADS,
+        checking(|job| {
+            least(job, |_, program| {
+                live_places(program)
+                    .into_iter()
+                    .filter(|&place| place <= 32)
+                    .collect()
+            })
+        }),
+    );
 }
 
 #[test]
@@ -665,13 +809,43 @@ fn a_run_without_long_threads_is_said_to_lack_them() {
         named.collect()
     };
     for class in [
-        classes("long threads", &OF_JOBS),
-        classes("long threads, checks", &OF_FENCE_CHECKS),
+        classes("long threads", &long_threads::OF_JOBS),
+        classes("long threads, checks", &long_threads::OF_FENCE_CHECKS),
         classes("long threads, runs", &[HIGH_GOAL, HIGH_END]),
     ]
     .concat()
     {
         assert!(lacking.contains(&class), "{class} not in {lacking:?}");
+    }
+}
+
+#[test]
+fn a_run_without_dead_code_is_said_to_lack_it() {
+    // The first eleven are P1 to P11, of which four are open by a store at place 0.
+    let tally = report(&Second, 11, 1).tally;
+    assert_eq!(
+        tally.counted("dead code, checks", dead_code::BY_THE_START),
+        4
+    );
+    let lacking = tally.empty_classes();
+    for class in dead_code::OF_JOBS {
+        let named = format!("dead code: {class}");
+        assert!(lacking.contains(&named), "{named} not in {lacking:?}");
+    }
+    for class in dead_code::OF_FENCE_CHECKS {
+        let named = format!("dead code, checks: {class}");
+        let met = class == dead_code::BY_THE_START;
+        assert_eq!(lacking.contains(&named), !met, "{named} in {lacking:?}");
+    }
+}
+
+#[test]
+fn a_good_share_of_the_jobs_has_dead_code() {
+    let tally = report(&Second, 2000, 2).tally;
+    assert!(tally.counted("dead code", dead_code::DEAD_STORE) > 300);
+    for class in [dead_code::ALARM_GONE, dead_code::LATER_PAIR] {
+        let moved = tally.counted("dead code, checks", class);
+        assert!(moved > 40, "only {moved} of {class}");
     }
 }
 

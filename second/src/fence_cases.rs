@@ -1,5 +1,6 @@
 //! Cases for the fence check, and the line that each is answered with.
 
+use crate::classes::Counts;
 use crate::fences::fences;
 use crate::job::MOST_INSTRUCTIONS;
 use crate::listed::{
@@ -7,8 +8,9 @@ use crate::listed::{
     too_long_threads, Memory, Program, AT_THE_START, FURTHEST_PLACE, MEMORIES, P12_REFUSAL, PSO,
     ROOM_FOR_JOB, SC, TSO,
 };
-use crate::long_threads::{of_fence_check, of_job, Counts, MOST_BEFORE, OF_FENCE_CHECKS, OF_JOBS};
+use crate::long_threads::MOST_BEFORE;
 use crate::random::{damaged_job, random_bytes, sound_job, Random};
+use crate::{dead_code, dead_code_cases, long_threads};
 
 /// A job, and the line that a person says for it from the paper.
 pub type Known = (Vec<u8>, String);
@@ -35,15 +37,28 @@ fn open(thread: u64, store: u64, load: u64) -> String {
 
 pub fn all() -> Vec<Vec<u8>> {
     let said = all_known().into_iter().map(|(job, _)| job).collect();
-    [said, every_small_program(), random_jobs()].concat()
+    let random = [random_jobs(), dead_code_cases::random_jobs()].concat();
+    [said, every_small_program(), random].concat()
 }
 
 /// How many cases have long threads, by class.
 pub fn counts_of_long_threads() -> Counts {
-    let classes = [&OF_JOBS[..], &OF_FENCE_CHECKS].concat();
+    let classes = [&long_threads::OF_JOBS[..], &long_threads::OF_FENCE_CHECKS].concat();
+    counts(&classes, long_threads::of_job, long_threads::of_fence_check)
+}
+
+/// How many cases have dead code, by class.
+pub fn counts_of_dead_code() -> Counts {
+    let classes = [&dead_code::OF_JOBS[..], &dead_code::OF_FENCE_CHECKS].concat();
+    counts(&classes, dead_code::of_job, dead_code::of_fence_check)
+}
+
+type ClassesOf = fn(&[u8]) -> Vec<&'static str>;
+
+fn counts(classes: &[&'static str], of_job: ClassesOf, of_fence_check: ClassesOf) -> Counts {
     let met = |job: &Vec<u8>| [of_job(job), of_fence_check(job)].concat();
     let met: Vec<_> = all().iter().map(met).collect();
-    Counts::new(&classes, &met)
+    Counts::new(classes, &met)
 }
 
 /// The cases whose lines a person can say.
@@ -54,6 +69,7 @@ pub fn all_known() -> Vec<Known> {
         each_fence_between(),
         of_each_long_length(),
         at_each_high_place(),
+        dead_code_cases::all_known(),
         refused(),
         about_the_range_of_k(),
     ]
@@ -80,25 +96,25 @@ fn listed() -> Vec<Known> {
     cases
 }
 
-const STORE: [u8; 4] = [5, 0, 0, 1];
-const STORE_REGISTER: [u8; 4] = [4, 1, 1, 0];
-const LOAD: [u8; 4] = [3, 0, 0, 0];
-const LOAD_OTHER: [u8; 4] = [3, 2, 1, 0];
-const FENCE: [u8; 4] = [6, 0, 0, 0];
-const EXCHANGE: [u8; 4] = [7, 0, 0, 0];
-const ADD: [u8; 4] = [2, 0, 0, 1];
-const SET: [u8; 4] = [1, 0, 0, 1];
+pub(crate) const STORE: [u8; 4] = [5, 0, 0, 1];
+pub(crate) const STORE_REGISTER: [u8; 4] = [4, 1, 1, 0];
+pub(crate) const LOAD: [u8; 4] = [3, 0, 0, 0];
+pub(crate) const LOAD_OTHER: [u8; 4] = [3, 2, 1, 0];
+pub(crate) const FENCE: [u8; 4] = [6, 0, 0, 0];
+pub(crate) const EXCHANGE: [u8; 4] = [7, 0, 0, 0];
+pub(crate) const ADD: [u8; 4] = [2, 0, 0, 1];
+pub(crate) const SET: [u8; 4] = [1, 0, 0, 1];
 
-const fn jump(place: u8) -> [u8; 4] {
+pub(crate) const fn jump(place: u8) -> [u8; 4] {
     [9, 0, place, 0]
 }
 
-const fn jump_if(place: u8) -> [u8; 4] {
+pub(crate) const fn jump_if(place: u8) -> [u8; 4] {
     [8, 0, place, 0]
 }
 
 /// What the goal asks for makes no difference to the fence check.
-fn job(memory: Memory, programs: &[Program]) -> Vec<u8> {
+pub(crate) fn job(memory: Memory, programs: &[Program]) -> Vec<u8> {
     file(memory, &[0, 0], programs, 0, &[AT_THE_START])
 }
 
@@ -128,22 +144,26 @@ fn of_one_thread() -> Vec<(Threads, String)> {
     ];
     let mut cases = Vec::new();
     for (program, pair) in groups.concat() {
-        let line = |thread| pair.map_or(FENCED.to_string(), |[s, l]| open(thread, s, l));
-        cases.push((vec![program.clone()], line(0)));
-        cases.push((vec![vec![], program], line(1)));
+        cases.push((vec![program.clone()], line_of(0, pair)));
+        cases.push((vec![vec![], program], line_of(1, pair)));
     }
     cases
 }
 
 /// A thread's instructions, and its least open pair if it has one.
-type Thread = (Program, Option<[u64; 2]>);
+pub(crate) type Thread = (Program, Option<[u64; 2]>);
 
-fn fenced(program: &[[u8; 4]]) -> Thread {
+pub(crate) fn fenced(program: &[[u8; 4]]) -> Thread {
     (program.to_vec(), None)
 }
 
-fn opened(program: &[[u8; 4]], store: u64, load: u64) -> Thread {
+pub(crate) fn opened(program: &[[u8; 4]], store: u64, load: u64) -> Thread {
     (program.to_vec(), Some([store, load]))
+}
+
+/// The line for a job in which at most this thread has an open pair.
+pub(crate) fn line_of(thread: usize, pair: Option<[u64; 2]>) -> String {
+    pair.map_or(FENCED.to_string(), |[s, l]| open(thread as u64, s, l))
 }
 
 /// Neither jump nor fence. Which variable is stored and which is loaded makes no difference.
@@ -190,7 +210,7 @@ fn barriers() -> Vec<Thread> {
     threads
 }
 
-/// Jumps to the own place, over a fence, into one, to place n, and code behind a jump that no run gets to.
+/// Jumps to the own place, over a fence, into one, to place n, and over code that is then dead.
 fn jumps() -> Vec<Thread> {
     vec![
         fenced(&[jump(0)]),
@@ -208,11 +228,11 @@ fn jumps() -> Vec<Thread> {
         fenced(&[STORE, jump(3), LOAD, FENCE]),
         fenced(&[STORE, jump(2), FENCE, LOAD]),
         fenced(&[STORE, jump(3), LOAD, EXCHANGE, jump(2)]),
-        opened(&[jump(0), STORE, LOAD], 1, 2),
-        opened(&[jump(3), STORE, LOAD], 1, 2),
-        opened(&[jump(4), STORE, jump(3), LOAD], 1, 3),
+        fenced(&[jump(0), STORE, LOAD]),
+        fenced(&[jump(3), STORE, LOAD]),
+        fenced(&[jump(4), STORE, jump(3), LOAD]),
         fenced(&[jump(4), STORE, FENCE, LOAD]),
-        opened(&[STORE, FENCE, jump(2), STORE, LOAD], 3, 4),
+        fenced(&[STORE, FENCE, jump(2), STORE, LOAD]),
     ]
 }
 
@@ -304,7 +324,7 @@ fn of_several_threads() -> Vec<(Threads, String)> {
 }
 
 /// The last place of a thread of the most instructions at which one stands, and the place before it.
-const LAST: usize = MOST_INSTRUCTIONS - 1;
+pub(crate) const LAST: usize = MOST_INSTRUCTIONS - 1;
 const LAST_BUT_ONE: usize = LAST - 1;
 
 /// Threads of the most instructions, and four of them.
@@ -374,7 +394,7 @@ fn of_long_threads() -> Vec<(Threads, String)> {
 }
 
 /// A thread of so many ADDs, but for these instructions at their places.
-fn among_adds(count: usize, others: &[(usize, [u8; 4])]) -> Program {
+pub(crate) fn among_adds(count: usize, others: &[(usize, [u8; 4])]) -> Program {
     let mut program = vec![ADD; count];
     for &(place, instruction) in others {
         program[place] = instruction;
@@ -388,12 +408,12 @@ fn over_the_last(last: [u8; 4]) -> Program {
     among_adds(MOST_INSTRUCTIONS, &others)
 }
 
-/// A load first, a store last but one, and jumps that lead from it to the load place by place.
+/// A load first, a store last but one, and jumps that lead from it to the load place by place; place 1 makes the store live.
 fn jumping_back() -> Program {
     let mut program: Program = (0..FURTHEST_PLACE)
         .map(|place| jump(place.saturating_sub(1)))
         .collect();
-    program[0] = LOAD;
+    program[..3].copy_from_slice(&[LOAD, jump(LAST_BUT_ONE as u8), jump(0)]);
     program[LAST_BUT_ONE] = STORE;
     program[LAST] = jump(LAST_BUT_ONE as u8 - 1);
     program
@@ -408,7 +428,7 @@ fn each_fence_between() -> Vec<Known> {
             let forward = among_adds(MOST_INSTRUCTIONS, &others);
             cases.push((job([TSO, 1], &[forward]), FENCED.to_string()));
         }
-        for place in 1..LAST_BUT_ONE {
+        for place in 2..LAST_BUT_ONE {
             let mut back = jumping_back();
             back[place] = barrier;
             cases.push((job([PSO, 2], &[back]), FENCED.to_string()));
@@ -418,14 +438,14 @@ fn each_fence_between() -> Vec<Known> {
 }
 
 /// The thread behind a few of no instructions and under a model, other ones for each turn; the goal is its end.
-fn by_turns(turn: usize, thread: Thread) -> Known {
+pub(crate) fn by_turns(turn: usize, thread: Thread) -> Known {
     let behind = turn % 4;
     let memory = MEMORIES[turn % MEMORIES.len()];
     let (program, pair) = thread;
     let goal = [[1, behind as u8, 0, program.len() as u8]];
     let mut programs: Vec<Program> = vec![vec![]; behind];
     programs.push(program);
-    let line = pair.map_or(FENCED.to_string(), |[s, l]| open(behind as u64, s, l));
+    let line = line_of(behind, pair);
     (file(memory, &[0, 0], &programs, 0, &goal), line)
 }
 

@@ -1,12 +1,13 @@
 //! Cases for the decoder, and the line that each is answered with.
 
+use crate::classes::Counts;
 use crate::job::{decode, LONGEST_FILE, MOST_INSTRUCTIONS};
 use crate::listed::{
     at_the_limit, bench_list, blank_goals, fewest_and_most_clauses, file, settled,
     too_long_threads, with_byte, Program, AT_THE_START, FURTHEST_PLACE, P1, PSO, ROOM_FOR_JOB, SC,
     TSO,
 };
-use crate::long_threads::{of_job, Counts, MOST_BEFORE, OF_JOBS};
+use crate::long_threads::{of_job, MOST_BEFORE, OF_JOBS};
 
 /// What the program under test prints for a case.
 pub fn line(job: &[u8]) -> String {

@@ -3,6 +3,9 @@
 //! It favours plainness over memory: growing vectors, hash maps and explicit level sets.
 
 pub mod bench;
+pub mod classes;
+pub mod dead_code;
+pub mod dead_code_cases;
 pub mod fence_cases;
 pub mod fences;
 pub mod hex;

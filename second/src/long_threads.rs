@@ -1,5 +1,6 @@
 //! Long threads, those that request 2 brought: what is new about a job and its calls, told once for the run cases and for the comparison.
 
+use crate::classes::those_met;
 use crate::fences::{is_barrier, open_pairs};
 use crate::job::{decode, Clause, Instruction, Job, MOST_INSTRUCTIONS};
 use crate::listed::with_byte;
@@ -44,11 +45,6 @@ pub fn of_job(job: &[u8]) -> Vec<&'static str> {
         Err(_) => vec![(ONE_TOO_MANY, is_one_too_many(job))],
     };
     those_met(&shapes)
-}
-
-fn those_met(classes: &[(&'static str, bool)]) -> Vec<&'static str> {
-    let met = classes.iter().filter(|(_, met)| *met);
-    met.map(|&(class, _)| class).collect()
 }
 
 fn shapes(job: &Job) -> Vec<(&'static str, bool)> {
@@ -155,33 +151,6 @@ pub fn ends_high(job: &[u8], schedule: &[u8]) -> bool {
             state.threads.iter().any(|thread| is_high(thread.place))
         }
         _ => false,
-    }
-}
-
-/// How many cases there are of each class, as one line.
-pub fn counts_line(kind: &str, counts: &Counts) -> String {
-    let classes = counts.of_classes.iter();
-    let classes: String = classes
-        .map(|(class, count)| format!("; {class}: {count}"))
-        .collect();
-    format!("{kind}: {} cases{classes}", counts.cases)
-}
-
-/// Of the cases of one kind.
-#[derive(Clone, Debug, PartialEq, Eq)]
-pub struct Counts {
-    pub cases: usize,
-    pub of_classes: Vec<(&'static str, usize)>,
-}
-
-impl Counts {
-    /// `met` holds the classes of each case.
-    pub fn new(classes: &[&'static str], met: &[Vec<&'static str>]) -> Counts {
-        let count = |class| met.iter().filter(|of_case| of_case.contains(class)).count();
-        Counts {
-            cases: met.len(),
-            of_classes: classes.iter().map(|class| (*class, count(class))).collect(),
-        }
     }
 }
 

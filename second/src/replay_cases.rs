@@ -1,12 +1,13 @@
 //! Cases for replay, and the line that each is answered with.
 
+use crate::classes::Counts;
 use crate::job::MOST_INSTRUCTIONS;
 use crate::listed::{
     accepted_list, at_the_limit, bench_list, blank_goals, classics, fewest_and_most_clauses, file,
     p12, refused_jobs, too_long_threads, with_byte, Program, Refused, COUNT, FURTHEST_PLACE,
     MEMORIES, P12_REFUSAL, PSO, ROOM_FOR_JOB, SC, TSO,
 };
-use crate::long_threads::{ends_high, of_job, Counts, HIGH_END, MOST_BEFORE, OF_JOBS};
+use crate::long_threads::{ends_high, of_job, HIGH_END, MOST_BEFORE, OF_JOBS};
 use crate::random::{damaged_job, found_schedule, replay_schedule, sound_job, Random};
 use crate::replay::replay;
 use std::slice;

@@ -1,12 +1,13 @@
 //! Cases for the search in lent memory, and the two lines that each is answered with.
 
+use crate::classes::Counts;
 use crate::job::MOST_INSTRUCTIONS;
 use crate::listed::{
     accepted_list, at_the_limit, bench_list, blank_goals, classics, fewest_and_most_clauses, file,
     p12, refused_jobs, too_long_threads, Memory, Program, Refused, AT_THE_START, COUNT,
     FURTHEST_PLACE, MEMORIES, P1, TSO,
 };
-use crate::long_threads::{ends_high, of_job, Counts, HIGH_GOAL, MOST_BEFORE, OF_JOBS};
+use crate::long_threads::{ends_high, of_job, HIGH_GOAL, MOST_BEFORE, OF_JOBS};
 use crate::machine::SLOT_BYTES;
 use crate::random::{buffer_sizes, sound_job, Random, Sizes};
 use crate::search::search;

@@ -124,14 +124,16 @@ fn the_listed_jobs_agree_with_all_schedules() {
     assert_eq!(check_search(&with_flag), [1, 6, 34, 0]);
 }
 
-/// Places where walks of exactly 1, 2, 3, ... moves can end, barriers strictly between excluded.
-fn walk_ends(program: &[Instruction], store: usize) -> Vec<usize> {
+/// Places where walks of exactly 1, 2, 3, ... moves can end, with or without barriers strictly between.
+fn walk_ends(program: &[Instruction], from: usize, barriers_between: bool) -> Vec<usize> {
     let mut ends = Vec::new();
-    let mut current = vec![store];
+    let mut current = vec![from];
+    current.retain(|&place| place < program.len());
     for moves in 0..=program.len() {
         let mut next = Vec::new();
         for &place in &current {
             let inner_barrier = moves > 0
+                && !barriers_between
                 && matches!(
                     program[place],
                     Instruction::Fence | Instruction::Exchange { .. }
@@ -161,10 +163,13 @@ fn walk_ends(program: &[Instruction], store: usize) -> Vec<usize> {
 
 fn expected_fences(job: &Job) -> [u64; 4] {
     for (thread, program) in job.programs.iter().enumerate() {
+        let led_to = walk_ends(program, 0, true);
         for store in 0..program.len() {
             let ends = match program[store] {
+                // A walk of no move is at place 0 already.
+                _ if store > 0 && !led_to.contains(&store) => Vec::new(),
                 Instruction::StoreRegister { .. } | Instruction::StoreConstant { .. } => {
-                    walk_ends(program, store)
+                    walk_ends(program, store, false)
                 }
                 Instruction::Set { .. }
                 | Instruction::Add { .. }
@@ -221,8 +226,13 @@ fn small_fence_cases() {
         answer(&[store, [9, 0, 3, 0], load, [6, 0, 0, 0]]),
         [1, 0, 0, 0]
     );
-    // Places that are never run count as well.
-    assert_eq!(answer(&[[9, 0, 3, 0], store, load]), [2, 1, 1, 2]);
+    // A store counts if moves lead to it from place 0, whatever runs do.
+    assert_eq!(answer(&[[9, 0, 3, 0], store, load]), [1, 0, 0, 0]);
+    assert_eq!(answer(&[[8, 0, 3, 0], store, load]), [2, 1, 1, 2]);
+    assert_eq!(
+        answer(&[[9, 0, 3, 0], store, load, [9, 0, 1, 0]]),
+        [2, 1, 1, 2]
+    );
     assert_eq!(
         answer(&[[4, 0, 0, 0], [1, 0, 0, 0], load, load]),
         [2, 1, 0, 2]

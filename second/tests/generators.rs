@@ -2,14 +2,15 @@
 
 mod common;
 use common::*;
+use second::classes::Counts;
 use second::job::{LONGEST_FILE, MOST_INSTRUCTIONS};
 use second::long_threads::{
-    of_fence_check, of_job, Counts, HELD_HIGH, OF_FENCE_CHECKS, OF_JOBS, ONE_TOO_MANY,
+    of_fence_check, of_job, HELD_HIGH, OF_FENCE_CHECKS, OF_JOBS, ONE_TOO_MANY,
 };
 use second::random::{
     buffer_sizes, case, damaged_job, random_bytes, replay_schedule, sound_job, Random,
 };
-use second::{decode, replay};
+use second::{dead_code, decode, replay};
 use std::collections::BTreeSet;
 
 #[test]
@@ -89,6 +90,17 @@ fn sound_and_damaged_jobs_have_long_threads() {
         .collect();
     let counts = Counts::new(&[ONE_TOO_MANY], &damaged);
     assert!(counts.of_classes[0].1 >= 20, "{counts:?}");
+}
+
+#[test]
+fn sound_jobs_have_dead_code() {
+    let mut random = Random::new(13);
+    let met = |job: &[u8]| [dead_code::of_job(job), dead_code::of_fence_check(job)].concat();
+    let sound: Vec<_> = (0..4_000).map(|_| met(&sound_job(&mut random))).collect();
+    let classes = [&dead_code::OF_JOBS[..], &dead_code::OF_FENCE_CHECKS].concat();
+    for (class, count) in Counts::new(&classes, &sound).of_classes {
+        assert!(count >= 10, "only {count} of {class}");
+    }
 }
 
 #[test]

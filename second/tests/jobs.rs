@@ -1,6 +1,7 @@
 //! The jobs that a person can try: the bench list as 01 and request 8 give it, and that the handshakes are not empty shells.
 
-use second::job::{decode, Clause, Instruction, Job};
+use second::fences::{open_pairs, open_run_or_not};
+use second::job::{decode, Clause, Instruction, Job, Model};
 use second::job_folder::check;
 use second::listed::{bench_list, file, with_byte, Program, P1, SC};
 use second::machine::SLOT_BYTES;
@@ -113,6 +114,13 @@ fn variants(handshake: &str) -> [String; 4] {
         .map(|variant| format!("{handshake}-{variant}"))
 }
 
+/// What the bench prints as one line; the schedule is hex digits alone, or empty, and is left out.
+fn printed(output: &str) -> String {
+    let lines = output.lines();
+    let words = lines.filter(|line| line.chars().any(|letter| letter > 'F'));
+    words.collect::<Vec<&str>>().join(", ")
+}
+
 #[test]
 fn texts_jobs_and_outputs_agree() {
     assert_eq!(check(&folder()), Ok(names().len()));
@@ -146,11 +154,7 @@ fn the_table_names_every_job_with_its_answer() {
         .into_iter()
         .map(|name| {
             let output = bench_lines(&stored(&name));
-            // The schedule is hex digits alone, or an empty line, and stands only in the file.
-            let lines = output.lines();
-            let words = lines.filter(|line| line.chars().any(|letter| letter > 'F'));
-            let words: Vec<&str> = words.collect();
-            (name, words.join(", "))
+            (name, printed(&output))
         })
         .collect();
     assert_eq!(said, expected);
@@ -221,7 +225,8 @@ fn without_fences(program: &[Instruction]) -> Vec<Instruction> {
 #[test]
 fn each_thread_gets_in_alone_and_beside_the_other() {
     let names = handshakes().flat_map(variants);
-    for name in names.chain(LONGEST.map(str::to_string)) {
+    let others = LONGEST.into_iter().chain(PARKED).chain(REVIVED);
+    for name in names.chain(others.map(str::to_string)) {
         for thread in 0..2 {
             let mut parts = Parts::of(&name);
             parts.clauses = vec![parts.clauses[thread]];
@@ -264,7 +269,7 @@ fn without_its_guard_a_classic_fails_under_sc() {
 #[test]
 fn no_fence_of_a_fenced_handshake_is_idle() {
     let names = handshakes().map(|handshake| format!("{handshake}-fenced-tso"));
-    for name in names.chain([LONGEST[1].to_string()]) {
+    for name in names.chain([LONGEST[1], PARKED[0], PARKED[1]].map(str::to_string)) {
         assert_eq!(fences(&stored(&name))[0], 1, "{name}");
         let whole = Parts::of(&name);
         for thread in 0..2 {
@@ -300,9 +305,9 @@ fn the_sequencers_have_the_lengths_that_their_names_and_request_2_say() {
 }
 
 #[test]
-fn without_its_guard_a_sequencer_fails_under_sc() {
+fn without_its_guard_a_sequencer_or_a_parked_store_fails_under_sc() {
     let names = ["sequencer-plain-sc", "sequencer-fenced-sc"];
-    for name in names.into_iter().chain(LONGEST) {
+    for name in names.into_iter().chain(LONGEST).chain(PARKED) {
         for thread in 0..2 {
             let mut parts = Parts::of(name);
             parts.memory = SC;
@@ -366,4 +371,111 @@ fn the_shortest_way_to_the_sequencers_fault_is_as_told_in_the_readme() {
         let told = format!("{}01 01 01 04 0D", "00 ".repeat(executions));
         assert_eq!(way, told, "{name}");
     }
+}
+
+/// The false alarm of request 4.
+const PARKED: [&str; 2] = ["parked-store-sc", "parked-store-tso"];
+
+/// The same with a jump back to the parked store.
+const REVIVED: [&str; 2] = ["parked-store-revived-sc", "parked-store-revived-tso"];
+
+/// What the bench printed when every place counted, run or not.
+fn printed_before(name: &str) -> String {
+    let job = stored(name);
+    let decoded = decode(&job).unwrap();
+    let now = printed(&bench_lines(&job));
+    let search = now.split(", ").next().unwrap();
+    let (fences, fenced) = match open_run_or_not(&decoded).into_iter().next() {
+        None => ("FENCED".to_string(), true),
+        Some(pair) => (
+            format!("OPEN {} {} {}", pair.thread, pair.store, pair.load),
+            false,
+        ),
+    };
+    // All of these have flag 1.
+    let signed = decoded.model != Model::Sc || fenced;
+    let verdict = if signed && search.starts_with("UNREACHABLE") {
+        "RELEASE"
+    } else {
+        "HOLD"
+    };
+    format!("{search}, {fences}, {verdict}")
+}
+
+#[test]
+fn the_parked_store_was_a_false_alarm() {
+    for (name, before, now) in [
+        (
+            PARKED[0],
+            "UNREACHABLE 63, OPEN 0 1 2, HOLD",
+            "UNREACHABLE 63, FENCED, RELEASE",
+        ),
+        (
+            PARKED[1],
+            "UNREACHABLE 112, OPEN 0 1 2, RELEASE",
+            "UNREACHABLE 112, FENCED, RELEASE",
+        ),
+    ] {
+        assert_eq!(printed_before(name), before);
+        assert_eq!(printed(&bench_lines(&stored(name))), now);
+    }
+}
+
+#[test]
+fn the_texts_of_the_parked_store_say_what_was_printed_and_what_is() {
+    for name in PARKED.into_iter().chain(REVIVED) {
+        let text = fs::read_to_string(folder().join(format!("{name}.txt"))).unwrap();
+        let before = format!("for these bytes: {}.\n", printed_before(name));
+        let now = format!(": {}.\n", printed(&bench_lines(&stored(name))));
+        assert!(text.contains(&before), "{name}: {before}");
+        assert_eq!(text.matches("Now it prints").count(), 1, "{name}");
+        let (_, behind) = text.split_once("Now it prints").unwrap();
+        assert!(behind.split_inclusive('\n').next().unwrap().ends_with(&now));
+    }
+}
+
+#[test]
+fn no_other_job_has_another_answer_than_before_request_4() {
+    for name in names() {
+        if let Ok(job) = decode(&stored(&name)) {
+            let moved = open_run_or_not(&job) != open_pairs(&job);
+            assert_eq!(moved, PARKED.contains(&name.as_str()), "{name}");
+        }
+    }
+}
+
+#[test]
+fn one_byte_revives_the_parked_store() {
+    for (parked, revived) in PARKED.into_iter().zip(REVIVED) {
+        // Head and values take 9 bytes, then comes n, and the p of a jump is its third byte.
+        let target = 9 + 1 + 4 * 10 + 2;
+        assert_eq!(stored(parked)[target], 5);
+        assert_eq!(with_byte(&stored(parked), target, 1), stored(revived));
+        assert_eq!(fences(&stored(revived)), [2, 0, 1, 2]);
+    }
+}
+
+#[test]
+fn the_parked_store_is_safe_and_the_revived_one_not_at_every_capacity() {
+    for capacity in 1..=8 {
+        for (name, expected) in [(PARKED[1], UNREACHABLE), (REVIVED[1], REACHABLE)] {
+            let mut parts = Parts::of(name);
+            parts.memory[1] = capacity;
+            assert_eq!(answer(&parts.file()), expected, "{name} C {capacity}");
+        }
+    }
+}
+
+#[test]
+fn a_fence_behind_the_revived_store_mends_it() {
+    let mut parts = Parts::of(REVIVED[1]);
+    parts.programs[0].insert(2, [6, 0, 0, 0]);
+    for quad in &mut parts.programs[0] {
+        if matches!(quad[0], 8 | 9) && quad[2] > 1 {
+            quad[2] += 1;
+        }
+    }
+    parts.clauses[0][3] += 1;
+    assert_eq!(fences(&parts.file()), [1, 0, 0, 0]);
+    assert_eq!(answer(&parts.file()), UNREACHABLE);
 }

@@ -1,11 +1,16 @@
 //! The run cases: lines that a person says, and that every kind of case is among them.
 
+use second::classes::Counts;
+use second::dead_code::{
+    ALARM_GONE, BY_A_FENCE, BY_A_JUMP_BACK, BY_JUMPING, BY_NOT_JUMPING, BY_THE_START, DEAD_STORE,
+    DEAD_STORE_IN, LATER_PAIR, LIVE_THROUGH_FENCE, OPEN_TO_DEAD_LOAD, OPEN_TO_LIVE_LOAD,
+};
 use second::fences::{open_pairs, OpenPair};
 use second::job::{Instruction, Job, Model};
 use second::listed::{blank_goals, refused_jobs, too_long_threads, MEMORIES, ROOM_FOR_JOB};
 use second::long_threads::{
-    Counts, FULL_SIZE, HELD_HIGH, HIGH_CLAUSE, HIGH_END, HIGH_EXCHANGE, HIGH_FENCE, HIGH_GOAL,
-    HIGH_LOAD, HIGH_STORE, HIGH_TARGET, LONG_THREAD, ONE_TOO_MANY,
+    FULL_SIZE, HELD_HIGH, HIGH_CLAUSE, HIGH_END, HIGH_EXCHANGE, HIGH_FENCE, HIGH_GOAL, HIGH_LOAD,
+    HIGH_STORE, HIGH_TARGET, LONG_THREAD, ONE_TOO_MANY,
 };
 use second::machine::SLOT_BYTES;
 use second::random::Sizes;
@@ -145,6 +150,32 @@ fn long_threads_are_often_enough_among_the_cases_of_all_four() {
             (HIGH_STORE, 150),
             (HIGH_LOAD, 170),
             (HELD_HIGH, 150),
+        ],
+    );
+}
+
+/// As for long threads.
+#[test]
+fn dead_code_is_often_enough_among_the_fence_cases() {
+    assert_counts(
+        fence_cases::counts_of_dead_code(),
+        7_500,
+        &[
+            (DEAD_STORE, 1_800),
+            (DEAD_STORE_IN[0], 850),
+            (DEAD_STORE_IN[1], 600),
+            (DEAD_STORE_IN[2], 500),
+            (DEAD_STORE_IN[3], 380),
+            (OPEN_TO_DEAD_LOAD, 1_100),
+            (OPEN_TO_LIVE_LOAD, 700),
+            (LIVE_THROUGH_FENCE, 700),
+            (ALARM_GONE, 1_000),
+            (LATER_PAIR, 320),
+            (BY_THE_START, 550),
+            (BY_A_FENCE, 320),
+            (BY_A_JUMP_BACK, 300),
+            (BY_JUMPING, 100),
+            (BY_NOT_JUMPING, 170),
         ],
     );
 }

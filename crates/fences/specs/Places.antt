@@ -2,7 +2,7 @@
 use mathlib.Core.Path.{_≡_, refl, sym, _∙_, subst}
 use mathlib.Core.Logic.{_⊎_, inl, inr}
 use mathlib.Core.Bool.{Bool, true, false, true≢false, false≢true}
-use mathlib.Core.List.{List, [], _∷_, _++_}
+use mathlib.Core.List.{List, [], _∷_}
 use mathlib.Core.Option.{none}
 use Prim.Native.Nat.{ℕ, _+_, _≤_, _<_}
 use native.Mathlib.Nat.{eq-or-lt-of-le}
@@ -17,13 +17,13 @@ use Rattle.bits.specs.BitLaws.{bit-of-zero}
 use Rattle.rules.specs.Limits.{longest-thread}
 use Rattle.rules.specs.File.{job-of}
 use Rattle.rules.specs.Sound.{JobIn}
-use Rattle.rules.specs.Fences.{onward-at, successors, role-at, Move, Passes, Walk, Leads, OpenIn, Open, fenced, open-at, ChecksTo}
-use Rattle.rules.specs.FenceCheck.{move-inside, load-inside, store-inside, least-open}
+use Rattle.rules.specs.Fences.{onward-at, successors, role-at, Move, Passes, Walk, Leads, Live, OpenIn, Open, fenced, open-at, ChecksTo}
+use Rattle.rules.specs.FenceCheck.{leads-on, move-inside, load-inside, store-inside, least-open}
 use Rattle.rules.specs.declared.Instr.{Instr}
 use Rattle.rules.specs.declared.Role.{Role}
 use Rattle.rules.specs.declared.Role.the-variants.{Stores, Loads}
 use Rattle.rules.specs.declared.Passing.{Passing}
-use Rattle.rules.specs.declared.Passing.the-variants.{NoFence}
+use Rattle.rules.specs.declared.Passing.the-variants.{Anything, NoFence}
 use Rattle.fences.specs.declared.Pair.{Pair}
 
 -- the instructions of a thread, none for a thread that the job doesn't have
@@ -113,16 +113,10 @@ module _ (by : Passing) (code : List Instr) (s : ℕ) where
     pub sound : Sound m
     pub complete : (q : ℕ) → q < length code → Leads by code s q → Has m q
 
--- a walk with one move more
-walk-on : (by : Passing) (code : List Instr) (p : ℕ) (between : List ℕ) (q r : ℕ) →
-    Walk by code p between q → Passes by (role-at code q) → Move code q r → Walk by code p (between ++ q ∷ []) r
-walk-on by code p [] q r w n m = (w, n, m)
-walk-on by code p (x ∷ between) q r w n m = (w .0, w .1, walk-on by code x between q r (w .2) n m)
-
 module _ (by : Passing) (code : List Instr) (s : ℕ) where
-  leads-on : (m p q : ℕ) → Sound by code s m → Onwards by m s p (role-at code p) → Move code p q → Leads by code s q
-  leads-on m p q sound (inl e) move = ([], subst (λ z. Move code z q) e move)
-  leads-on m p q sound (inr (h, n)) move = let w = sound p h in (w .0 ++ p ∷ [], walk-on by code s (w .0) p q (w .1) n move)
+  goes-further : (m p q : ℕ) → Sound by code s m → Onwards by m s p (role-at code p) → Move code p q → Leads by code s q
+  goes-further m p q sound (inl e) move = ([], subst (λ z. Move code z q) e move)
+  goes-further m p q sound (inr (h, n)) move = leads-on by code s p q (sound p h) n move
 
   -- a look at one place
   pub grown-on : (m r p : ℕ) → Onwards by m s p (role-at code p) → Joined (successors code p) m r → Grown by code s (λ q. q ≡ p) m r
@@ -138,7 +132,7 @@ module _ (by : Passing) (code : List Instr) (s : ℕ) where
       sound k q h = which (joined .only q h)
         where
           which : (q ∈ successors code p) ⊎ Has m q → Leads by code s q
-          which (inl move) = leads-on m p q k on move
+          which (inl move) = goes-further m p q k on move
           which (inr g) = k q g
 
   pub grown-not : (m p : ℕ) → ¬ (Onwards by m s p (role-at code p)) → Grown by code s (λ q. q ≡ p) m m
@@ -228,20 +222,52 @@ none-below P n r e before = record { within = omega arith; holds = λ l. absurd 
 abbrev pub MetLoad : List Instr → ℕ → ℕ → Type 0
 MetLoad code m p = (role-at code p ≡ Loads) × Has m p
 
--- where the store stands, the loads that were met are the open ones
-pub open-of :
-    (code : List Instr) (s : ℕ) → role-at code s ≡ Stores → (m r : ℕ) → Met NoFence code s m →
-    LeastBelow (MetLoad code m) (length code) r → LeastBelow (OpenIn code s) (length code) r
-open-of code s store m r met least =
-    record {
-      within = least .within;
-      holds =
-          λ l.
-          let h = least .holds l in
-          let w = met .sound r (h .1) in
-          record { store = store; load = h .0; between = w .0; walk = w .1 };
-      before = λ i l o. least .before i l (o .load, met .complete i (omega (arith, load-inside o)) (o .between, o .walk));
-    }
+-- the places to which any walks lead from place 0
+abbrev pub FromFirst : List Instr → ℕ → Type 0
+FromFirst code met = Met Anything code 0 met
+
+-- a store that counts: place 0, or one that was met from there
+abbrev pub LiveBy : (met p : ℕ) → Type 0
+LiveBy met p = (p ≡ 0) ⊎ Has met p
+
+pub tells-live : (met p : ℕ) → ¬ (p ≡ 0) → {b : Bool} → Tells b (Has met p) → Tells b (LiveBy met p)
+tells-live met p later = tells-same inr back
+  where
+    back : LiveBy met p → Has met p
+    back (inl e) = absurd (later e)
+    back (inr h) = h
+
+abbrev pub LiveStore : List Instr → (met p : ℕ) → Type 0
+LiveStore code met p = (role-at code p ≡ Stores) × LiveBy met p
+
+module _ (code : List Instr) (live : ℕ) (from-first : FromFirst code live) (s : ℕ) where
+  is-live : LiveBy live s → Live code s
+  is-live (inl e) = inl e
+  is-live (inr h) = inr (from-first .sound s h)
+
+  live-is-met : s < length code → Live code s → LiveBy live s
+  live-is-met inside (inl e) = inl e
+  live-is-met inside (inr w) = inr (from-first .complete s inside w)
+
+  -- where a store that counts stands, the loads that were met are the open ones
+  pub open-of : LiveStore code live s → (m r : ℕ) → Met NoFence code s m →
+      LeastBelow (MetLoad code m) (length code) r → LeastBelow (OpenIn code s) (length code) r
+  open-of (store, counts) m r met least =
+      record {
+        within = least .within;
+        holds =
+            λ l.
+            let h = least .holds l in
+            let w = met .sound r (h .1) in
+            record { pair = record { store = store; load = h .0; between = w .0; walk = w .1 }; live = is-live counts };
+        before =
+            λ i l o.
+            least .before i l (o .pair .load, met .complete i (omega (arith, load-inside (o .pair))) (o .pair .between, o .pair .walk));
+      }
+
+  -- where none stands there are none
+  pub open-none : ¬ (LiveStore code live s) → (l : ℕ) → ¬ (OpenIn code s l)
+  open-none n l o = n (o .pair .store, live-is-met (store-inside (o .pair)) (o .live))
 
 -- The least pair of a thread.
 
@@ -272,25 +298,25 @@ module _ (code : List Instr) where
 
   -- a store place whose least load would be the thread's length has none
   pub none-at : (s l : ℕ) → LeastBelow (OpenIn code s) (length code) l → length code ≤ l → NoneAt code s
-  none-at s l least above n o = least .before n (omega (arith, load-inside o)) o
+  none-at s l least above n o = least .before n (omega (arith, load-inside (o .pair))) o
 
   pub pair-none : (r : Pair) → r .found ≡ false → ((s : ℕ) → s < length code → NoneAt code s) → PairMeans code r
   pair-none r nothing stores =
-      record { least = λ e. absurd (true≢false (sym e ∙ nothing)); none-open = λ e s l o. stores s (store-inside o) l o }
+      record { least = λ e. absurd (true≢false (sym e ∙ nothing)); none-open = λ e s l o. stores s (store-inside (o .pair)) l o }
 
 -- The least pair of all threads.
 
 module _ (threads : List (List Instr)) where
   -- an open pair is one of its thread's
   in-thread : (t s l : ℕ) → Open threads t s l → OpenIn (getD threads t []) s l
-  in-thread t s l o = rw (at-getD threads t (o .code) [] (o .thread-is)) (o .pair)
+  in-thread t s l o = rw (at-getD threads t (o .code) [] (o .thread-is)) (o .is-open)
 
   pub least-of-all :
       (t s l : ℕ) → t < length threads → ((n : ℕ) → n < t → NoneIn (getD threads n [])) → LeastPair (getD threads t []) s l →
       ChecksTo threads (open-at t s l)
   least-of-all t s l below before p =
       let r = below-at threads t below in (
-        record { code = r .0; thread-is = r .1; pair = rw (at-getD threads t (r .0) [] (r .1)) at (p .is-open) },
+        record { code = r .0; thread-is = r .1; is-open = rw (at-getD threads t (r .0) [] (r .1)) at (p .is-open) },
         least-open threads t s l (λ n k s′ l′ o. before n k s′ l′ (in-thread n s′ l′ o)) (λ n k l′ o. p .stores-before n k l′ (in-thread t n l′ o))
             (λ n k o. p .loads-before n k (in-thread t s n o)),
       )

@@ -1,4 +1,4 @@
-// Fence check: 01, "Replay and fence check". Any bytes as a job; nothing is written.
+// Fence check: 01, "Replay and fence check", and 02, request 4. Any bytes as a job; nothing is written.
 use job::Decoded;
 use job::Layout;
 use job::PlaceRead;
@@ -13,7 +13,7 @@ ghost use Rattle.rules.specs.File.{job-of};
 ghost use Rattle.rules.specs.Fences as rules;
 ghost use Rattle.job.specs.Laid.{IsAccepted};
 ghost use Rattle.fences.specs.Meaning.{words, FenceFor, FencePromise};
-ghost use Rattle.fences.specs.Places.{thread-of, Tells, Onwards, Joined, Grown, Met, LeastBelow, MetLoad, PairMeans};
+ghost use Rattle.fences.specs.Places.{thread-of, Tells, Onwards, Joined, Grown, Met, LeastBelow, MetLoad, FromFirst, LiveBy, LiveStore, PairMeans};
 
 // What a fence check answers: the refusal's number and offset; no pair is open; the least open pair, its thread, store place and load place.
 pub enum Answer {
@@ -158,14 +158,37 @@ fn least_load(job: &[u8], l: Layout, t: u8, met: u64) -> u8
     n
 }
 
-// The least load that is open with the store place; the thread's length if there is none.
-fn open_load(job: &[u8], l: Layout, t: u8, store: u8) -> u8
+// Whether place p can be reached by moves from place 0, where `met` has the places to which walks from there lead.
+fn is_live(met: u64, p: u8) -> bool
+    ensures { λ r. ⌜ Tells r (LiveBy met p) ⌝ }
+{
+    if p == 0 {
+        return true;
+    }
+    bits::has(met, p)
+}
+
+// Whether a store that counts stands at place p.
+fn is_live_store(job: &[u8], l: Layout, t: u8, met: u64, p: u8) -> bool
     requires { ⌜ IsAccepted (now job) l ⌝ }
+    ensures { λ r. ⌜ Tells r (LiveStore (thread-of (now (job .entry)) t) met p) ⌝ }
+{
+    if let Role::Stores = role_at(job, l, t, p) {
+        is_live(met, p)
+    } else {
+        false
+    }
+}
+
+// The least load that is open with the store place; the thread's length if there is none.
+fn open_load(job: &[u8], l: Layout, t: u8, live: u64, store: u8) -> u8
+    requires { ⌜ IsAccepted (now job) l ⌝ }
+    requires { ⌜ FromFirst (thread-of (now job) t) live ⌝ }
     ensures { λ r. ⌜
         LeastBelow (rules.OpenIn (thread-of (now (job .entry)) t) store) (length (thread-of (now (job .entry)) t)) r
         ⌝ }
 {
-    if let Role::Stores = role_at(job, l, t, store) {
+    if is_live_store(job, l, t, live, store) {
         let met = places_met(job, l, t, Passing::NoFence, store);
         least_load(job, l, t, met)
     } else {
@@ -179,9 +202,10 @@ fn least_pair(job: &[u8], l: Layout, t: u8) -> Pair
     ensures { λ r. ⌜ PairMeans (thread-of (now (job .entry)) t) r ⌝ }
 {
     let n = job::parts::code_length(job, l, t);
+    let live = places_met(job, l, t, Passing::Anything, 0);
     let mut store: u8 = 0;
     while store < n {
-        let load = open_load(job, l, t, store);
+        let load = open_load(job, l, t, live, store);
         if load < n {
             return Pair {
                 found: true,

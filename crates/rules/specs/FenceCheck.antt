@@ -22,8 +22,8 @@ use Rattle.reach.specs.Found.{find-means}
 use Rattle.reach.specs.Promise.{unknown-exactly, never}
 use Rattle.rules.specs.Kinds.{control-of, role-of}
 use Rattle.rules.specs.Step.{given}
-use Rattle.rules.specs.Tests.{three, of-three, given-some, given-none}
-use Rattle.rules.specs.Fences.{onward-at, successors, role-at, Move, Passes, Walk, Leads, OpenIn, Open, Checked, fenced, open-at, ChecksTo}
+use Rattle.rules.specs.Tests.{both, of-both, given-some, given-none}
+use Rattle.rules.specs.Fences.{onward-at, successors, role-at, Move, Passes, Walk, Leads, Unfenced, Live, OpenIn, Open, Checked, fenced, open-at, ChecksTo}
 use Rattle.rules.specs.Onward.{few-onward}
 use Rattle.rules.specs.declared.Instr.{Instr}
 use Rattle.rules.specs.declared.Role.{Role}
@@ -45,6 +45,21 @@ one-fence-answer threads (open-at t s l) (open-at t′ s′ l′) h k = which (e
     which (inl e) = absurd (k .1 t s l (h .0) e)
     which (inr (inl e)) = cc
     which (inr (inr e)) = absurd (h .1 t′ s′ l′ (k .0) e)
+
+-- Walks with one move more.
+
+walk-on : (by : Passing) (code : List Instr) (p : ℕ) (between : List ℕ) (q r : ℕ) →
+    Walk by code p between q → Passes by (role-at code q) → Move code q r → Walk by code p (between ++ q ∷ []) r
+walk-on by code p [] q r w h m = (w, h, m)
+walk-on by code p (x ∷ between) q r w h m = (w .0, w .1, walk-on by code x between q r (w .2) h m)
+
+pub leads-on : (by : Passing) (code : List Instr) (p q r : ℕ) → Leads by code p q → Passes by (role-at code q) → Move code q r → Leads by code p r
+leads-on by code p q r w h m = (w .0 ++ q ∷ [], walk-on by code p (w .0) q r (w .1) h m)
+
+-- from a live place every move leads to a live one
+pub live-on : (code : List Instr) (p q : ℕ) → Live code p → Move code p q → Live code q
+live-on code p q (inl e) m = inr ([], subst (λ z. Move code z q) e m)
+live-on code p q (inr w) m = inr (leads-on Anything code 0 p q w (λ e. refl) m)
 
 -- Walks as runs: the state is a place, the steps are its successors by number, and none leads on from what a walk may not pass.
 
@@ -280,16 +295,19 @@ module _ {A : Type 0} (f : ℕ → Option A) where
       which (some b) d e again = let r = again (d ∙ e) in (r .0, omega (arith, r .1), r .2, r .3)
       which none d e again = (k, omega arith, e, first-none k d)
 
--- the test of one triple
-unfoldable pub open-test : List Instr → (s l : ℕ) → Bool
-open-test code s l = same-role (role-at code s) Stores && same-role (role-at code l) Loads && leads NoFence code s l
+-- the test of a store that counts, and of a load that is open with it
+unfoldable pub store-test : List Instr → (s : ℕ) → Bool
+store-test code s = same-role (role-at code s) Stores && leads Anything code 0 s
+
+unfoldable pub load-test : List Instr → (s l : ℕ) → Bool
+load-test code s l = same-role (role-at code l) Loads && leads NoFence code s l
 
 -- the least open load of a store, the least open store of a thread, the least thread that has one
 unfoldable pub open-loads : List Instr → (t s : ℕ) → Option Checked
-open-loads code t s = first-below (length code) λ l. given (open-test code s l) (open-at t s l)
+open-loads code t s = first-below (length code) λ l. given (load-test code s l) (open-at t s l)
 
 unfoldable pub open-stores : ℕ → List Instr → Option Checked
-open-stores t code = first-below (length code) λ s. open-loads code t s
+open-stores t code = first-below (length code) λ s. andThen (given (store-test code s) s) (open-loads code t)
 
 unfoldable pub open-threads : List (List Instr) → Option Checked
 open-threads threads = first-below (length threads) λ t. andThen (getElem? threads t) (open-stores t)
@@ -322,7 +340,7 @@ role-inside code p n = which (getElem? code p) refl n
     which none e n = absurd (n refl)
     which (some i) e n = at-below code p i e
 
-module _ {code : List Instr} {s l : ℕ} (o : OpenIn code s l) where
+module _ {code : List Instr} {s l : ℕ} (o : Unfenced code s l) where
   pub store-inside : s < length code
   store-inside = role-inside code s (λ e. let d = o .store in let z : _≡_ {A = ℕ} 0 1 = cc in omega arith)
 
@@ -334,46 +352,77 @@ pub open-in : (threads : List (List Instr)) (t : ℕ) (code : List Instr) → ge
     → (s l : ℕ) → Open threads t s l → OpenIn code s l
 open-in threads t code is s l o =
     let e : o .code ≡ code = (let f : some (o .code) ≡ some code = sym (o .thread-is) ∙ is in cc) in
-    subst (λ c. OpenIn c s l) e (o .pair)
+    subst (λ c. OpenIn c s l) e (o .is-open)
+
+-- a walk of no move stays where it is
+no-move : (by : Passing) (code : List Instr) (s l p q : ℕ) → run (walks by code s l) [] p ≡ some q → p ≡ q
+no-move by code s l p q e = let f : some p ≡ some q = e in cc
+
+module _ (code : List Instr) (s : ℕ) where
+  live-run : (w : List ℕ) → run (walks Anything code 0 s) w 0 ≡ some s → Live code s
+  live-run [] e = inl (sym (no-move Anything code 0 s 0 s e))
+  live-run (k ∷ w) e = inr (run-walk Anything code 0 s k w 0 s e)
+
+  live-leads : Live code s → T (leads Anything code 0 s)
+  live-leads (inl e) = run-leads Anything code 0 s [] (rw e)
+  live-leads (inr b) = let w = walk-run Anything code 0 s (b .0) 0 s (λ e. refl) (b .1) in run-leads Anything code 0 s (w .0) (w .1)
+
+  -- a store that counts
+  test-store : store-test code s ≡ true → (role-at code s ≡ Stores) × Live code s
+  unfolding store-test
+  test-store h =
+      let p = both (same-role (role-at code s) Stores) (leads Anything code 0 s) (rw h tt) in
+      let r = leads-run Anything code 0 s (p .1) in
+      (same-role-equal (role-at code s) Stores (p .0), live-run (r .0) (r .1))
+
+  store-tests : role-at code s ≡ Stores → Live code s → T (store-test code s)
+  unfolding store-test
+  store-tests e h = of-both (same-role (role-at code s) Stores) (leads Anything code 0 s) (equal-same-role _ _ e) (live-leads h)
 
 module _ (code : List Instr) (s l : ℕ) where
-  test-open : open-test code s l ≡ true → OpenIn code s l
-  unfolding open-test
-  test-open h =
-      let p = three (same-role (role-at code s) Stores) (same-role (role-at code l) Loads) (leads NoFence code s l) (rw h tt) in
-      let st = same-role-equal (role-at code s) Stores (p .0) in
-      let ld = same-role-equal (role-at code l) Loads (p .1) in
-      let r = leads-run NoFence code s l (p .2) in
-      let w = walk st ld (r .0) (r .1) in
+  test-load : role-at code s ≡ Stores → load-test code s l ≡ true → Unfenced code s l
+  unfolding load-test
+  test-load st h =
+      let p = both (same-role (role-at code l) Loads) (leads NoFence code s l) (rw h tt) in
+      let ld = same-role-equal (role-at code l) Loads (p .0) in
+      let r = leads-run NoFence code s l (p .1) in
+      let w = walk ld (r .0) (r .1) in
       record { store = st; load = ld; between = w .0; walk = w .1 }
     where
       -- a walk of no move would end at its own store
-      walk : role-at code s ≡ Stores → role-at code l ≡ Loads → (w : List ℕ) → run (walks NoFence code s l) w s ≡ some l → Leads NoFence code s l
-      walk st ld [] e =
-          let d : s ≡ l = (let f : some s ≡ some l = e in cc) in
-          absurd (store-is-no-load st (ap (role-at code) d ∙ ld))
-      walk st ld (k ∷ w) e = run-walk NoFence code s l k w s l e
+      walk : role-at code l ≡ Loads → (w : List ℕ) → run (walks NoFence code s l) w s ≡ some l → Leads NoFence code s l
+      walk ld [] e = absurd (store-is-no-load st (ap (role-at code) (no-move NoFence code s l s l e) ∙ ld))
+      walk ld (k ∷ w) e = run-walk NoFence code s l k w s l e
 
-  open-tests : OpenIn code s l → T (open-test code s l)
-  unfolding open-test
-  open-tests o =
+  load-tests : Unfenced code s l → T (load-test code s l)
+  unfolding load-test
+  load-tests o =
       let w = walk-run NoFence code s l (o .between) s l (λ e. absurd (store-is-no-fence (o .store) e)) (o .walk) in
-      of-three (same-role (role-at code s) Stores) (same-role (role-at code l) Loads) (leads NoFence code s l)
-      (equal-same-role _ _ (o .store)) (equal-same-role _ _ (o .load)) (run-leads NoFence code s l (w .0) (w .1))
+      of-both (same-role (role-at code l) Loads) (leads NoFence code s l) (equal-same-role _ _ (o .load)) (run-leads NoFence code s l (w .0) (w .1))
 
-  no-load : (t : ℕ) → given (open-test code s l) (open-at t s l) ≡ none → ¬ (OpenIn code s l)
-  no-load t e o = subst T (given-none (open-test code s l) (open-at t s l) e) (open-tests o)
+  no-load : (t : ℕ) → given (load-test code s l) (open-at t s l) ≡ none → ¬ (Unfenced code s l)
+  no-load t e o = subst T (given-none (load-test code s l) (open-at t s l) e) (load-tests o)
 
 -- no open load, store or thread is missed
 module _ (code : List Instr) (t : ℕ) where
-  no-loads : (s : ℕ) → open-loads code t s ≡ none → (l : ℕ) → ¬ (OpenIn code s l)
+  no-loads : (s : ℕ) → open-loads code t s ≡ none → (l : ℕ) → ¬ (Unfenced code s l)
   unfolding open-loads
   no-loads s e l o =
-      no-load code s l t (first-none (λ l. given (open-test code s l) (open-at t s l)) (length code) e l (load-inside o)) o
+      no-load code s l t (first-none (λ l. given (load-test code s l) (open-at t s l)) (length code) e l (load-inside o)) o
+
+  abbrev pairs-of : ℕ → Option Checked
+  pairs-of s = andThen (given (store-test code s) s) (open-loads code t)
+
+  no-store : (s : ℕ) → pairs-of s ≡ none → (l : ℕ) → ¬ (OpenIn code s l)
+  no-store s e l o = which (store-test code s) (store-tests code s (o .pair .store) (o .live)) e
+    where
+      which : (b : Bool) → T b → andThen (given b s) (open-loads code t) ≡ none → ⊥
+      which true h e = no-loads s e l (o .pair)
+      which false h e = h
 
   no-stores : open-stores t code ≡ none → (s l : ℕ) → ¬ (OpenIn code s l)
   unfolding open-stores
-  no-stores e s l o = no-loads s (first-none (open-loads code t) (length code) e s (store-inside o)) l o
+  no-stores e s l o = no-store s (first-none pairs-of (length code) e s (store-inside (o .pair))) l o
 
 module _ (threads : List (List Instr)) where
   abbrev in-thread : ℕ → Option Checked
@@ -381,7 +430,7 @@ module _ (threads : List (List Instr)) where
 
   no-threads : (t : ℕ) → in-thread t ≡ none → (s l : ℕ) → ¬ (Open threads t s l)
   no-threads t e s l o =
-      no-stores (o .code) t (sym (ap (λ z. andThen z (open-stores t)) (o .thread-is)) ∙ e) s l (o .pair)
+      no-stores (o .code) t (sym (ap (λ z. andThen z (open-stores t)) (o .thread-is)) ∙ e) s l (o .is-open)
 
   -- a pair is the least if no thread before has one, no store before in its thread, and no load before of its store
   pub least-open :
@@ -405,13 +454,21 @@ module _ (threads : List (List Instr)) where
       which (some a) e =
           let r = first-some in-thread (length threads) a e in
           let c = andThen-some (getElem? threads (r .0)) (open-stores (r .0)) a (r .2) in
-          let p = first-some (open-loads (c .0) (r .0)) (length (c .0)) a (c .2) in
-          let q = first-some (λ l. given (open-test (c .0) (p .0) l) (open-at (r .0) (p .0) l)) (length (c .0)) a (p .2) in
-          let g = given-some (open-test (c .0) (p .0) (q .0)) (open-at (r .0) (p .0) (q .0)) a (q .2) in
+          let p = first-some (pairs-of (c .0) (r .0)) (length (c .0)) a (c .2) in
+          let i = andThen-some (given (store-test (c .0) (p .0)) (p .0)) (open-loads (c .0) (r .0)) a (p .2) in
+          let k = given-some (store-test (c .0) (p .0)) (p .0) (i .0) (i .1) in
+          let st = test-store (c .0) (p .0) (k .0) in
+          let is : open-loads (c .0) (r .0) (p .0) ≡ some a = ap (open-loads (c .0) (r .0)) (k .1) ∙ i .2 in
+          let q = first-some (λ l. given (load-test (c .0) (p .0) l) (open-at (r .0) (p .0) l)) (length (c .0)) a is in
+          let g = given-some (load-test (c .0) (p .0) (q .0)) (open-at (r .0) (p .0) (q .0)) a (q .2) in
           let said = open-in threads (r .0) (c .0) (c .1) in
           subst (ChecksTo threads) (g .1) (
-            record { code = c .0; thread-is = c .1; pair = test-open (c .0) (p .0) (q .0) (g .0) },
-            least-open (r .0) (p .0) (q .0) (λ n k. no-threads n (r .3 n k))
-                (λ n k l o. no-loads (c .0) (r .0) n (p .3 n k) l (said n l o))
-                (λ n k o. no-load (c .0) (p .0) n (r .0) (q .3 n k) (said (p .0) n o)),
+            record {
+              code = c .0;
+              thread-is = c .1;
+              is-open = record { pair = test-load (c .0) (p .0) (q .0) (st .0) (g .0); live = st .1 };
+            },
+            least-open (r .0) (p .0) (q .0) (λ n m. no-threads n (r .3 n m))
+                (λ n m l o. no-store (c .0) (r .0) n (p .3 n m) l (said n l o))
+                (λ n m o. no-load (c .0) (p .0) n (r .0) (q .3 n m) (said (p .0) n o .pair)),
           )

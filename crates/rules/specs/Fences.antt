@@ -1,5 +1,6 @@
--- The fence check: 01, "Replay and fence check".
+-- The fence check: 01, "Replay and fence check", and 02, request 4.
 use mathlib.Core.Path.{_≡_}
+use mathlib.Core.Logic.{_⊎_}
 use mathlib.Core.List.{List, [], _∷_}
 use mathlib.Core.Option.{Option, none, some}
 use Prim.Native.Nat.{ℕ, suc}
@@ -49,18 +50,28 @@ Walk by code p (m ∷ between) q = Move code p m × Passes by (role-at code m) �
 abbrev pub Leads : Passing → List Instr → ℕ → ℕ → Type 0
 Leads by code p q = (between : List ℕ) × Walk by code p between q
 
--- "A pair (store place, load place) in one thread is open when a walk .. leads from store to load"; "Every place counts, run or not."
-pub record OpenIn (code : List Instr) (s l : ℕ) : Type 0 where
+-- "A pair (store place, load place) in one thread is open when a walk of one or more moves leads from store to load with no FENCE or
+-- XCHG strictly between."
+pub record Unfenced (code : List Instr) (s l : ℕ) : Type 0 where
   pub store : role-at code s ≡ Stores
   pub load : role-at code l ≡ Loads
   pub between : List ℕ
   pub walk : Walk NoFence code s between l
 
+-- "can be reached by successor moves from place 0 of its thread (place 0 itself counts)", through any instructions: moves decide, not runs
+abbrev pub Live : List Instr → ℕ → Type 0
+Live code p = (p ≡ 0) ⊎ Leads Anything code 0 p
+
+-- 02, request 4: "a pair counts only if its store place can be reached"
+pub record OpenIn (code : List Instr) (s l : ℕ) : Type 0 where
+  pub pair : Unfenced code s l
+  pub live : Live code s
+
 -- a pair of thread t; it is of the threads alone: "its model makes no difference here"
 pub record Open (threads : List (List Instr)) (t s l : ℕ) : Type 0 where
   pub code : List Instr
   pub thread-is : getElem? threads t ≡ some code
-  pub pair : OpenIn code s l
+  pub is-open : OpenIn code s l
 
 -- "The answer is FENCED, or OPEN with the least (thread, store, load)."
 pub data Checked : Type 0 where

@@ -1,7 +1,7 @@
 -- The jobs of 01's bench list, byte for byte, and some beyond it.
 use mathlib.Core.List.{List, [], _∷_, _++_}
-use Prim.Native.Nat.{ℕ, zero, suc}
-use lib.ListN.{set, take}
+use Prim.Native.Nat.{ℕ, zero, suc, _+_, _*_}
+use lib.ListN.{length, set, take}
 
 -- P1, store buffering: x=1, load y against y=1, load x; both loads 0 at the end
 unfoldable pub p1 : List ℕ
@@ -496,6 +496,56 @@ behind-a-jump =
     ∷ 0x03 ∷ 0x09 ∷ 0x00 ∷ 0x03 ∷ 0x00 ∷ 0x05 ∷ 0x00 ∷ 0x00 ∷ 0x01 ∷ 0x03 ∷ 0x00 ∷ 0x00 ∷ 0x00
     -- any buffers, 1 clause
     ∷ 0x00 ∷ 0x01 ∷ 0x01 ∷ 0x00 ∷ 0x00 ∷ 0x00
+    ∷ []
+
+-- instructions as the file has them
+unfoldable pub set-0 : List ℕ
+set-0 = 0x01 ∷ 0x00 ∷ 0x00 ∷ 0x00 ∷ []
+
+unfoldable pub load-x : List ℕ
+load-x = 0x03 ∷ 0x00 ∷ 0x00 ∷ 0x00 ∷ []
+
+unfoldable pub store-x : List ℕ
+store-x = 0x05 ∷ 0x00 ∷ 0x00 ∷ 0x01 ∷ []
+
+unfoldable pub fence : List ℕ
+fence = 0x06 ∷ 0x00 ∷ 0x00 ∷ 0x00 ∷ []
+
+unfoldable pub xchg-x : List ℕ
+xchg-x = 0x07 ∷ 0x00 ∷ 0x00 ∷ 0x00 ∷ []
+
+-- register 0 is 0 at the start, and then this always jumps
+unfoldable pub jeq-to : ℕ → List ℕ
+jeq-to p = 0x08 ∷ 0x00 ∷ p ∷ 0x00 ∷ []
+
+unfoldable pub jmp-to : ℕ → List ℕ
+jmp-to p = 0x09 ∷ 0x00 ∷ p ∷ 0x00 ∷ []
+
+unfoldable pub one-after-another : List (List ℕ) → List ℕ
+one-after-another [] = []
+one-after-another (i ∷ is) = i ++ one-after-another is
+
+-- TSO, C 1: one thread of these, up to 60; goal place 0
+unfoldable pub alone : List (List ℕ) → List ℕ
+alone is =
+    -- length, version 1, TSO, C 1, 1 thread, 1 variable, 0
+    (0x00 ∷ (13 + 4 * length is) ∷ 0x01 ∷ 0x01 ∷ 0x01 ∷ 0x01 ∷ 0x01 ∷ 0x00 ∷ [])
+    ++ (length is ∷ [])
+    ++ one-after-another is
+    -- any buffers, 1 clause
+    ++ (0x00 ∷ 0x01 ∷ 0x01 ∷ 0x00 ∷ 0x00 ∷ 0x00 ∷ [])
+
+-- P9 under SC with flag 1, and in thread 0 a store and a load that were parked behind a JMP to the end
+unfoldable pub parked-store : List ℕ
+parked-store =
+    -- length 63, version 1, SC, C 0, 2 threads, 2 variables, both 0
+    0x00 ∷ 0x3F ∷ 0x01 ∷ 0x00 ∷ 0x00 ∷ 0x02 ∷ 0x02 ∷ 0x00 ∷ 0x00
+    -- thread 0: x=1, FENCE, load y, JMP to 6; x=0, load y
+    ∷ 0x06 ∷ 0x05 ∷ 0x00 ∷ 0x00 ∷ 0x01 ∷ 0x06 ∷ 0x00 ∷ 0x00 ∷ 0x00 ∷ 0x03 ∷ 0x00 ∷ 0x01 ∷ 0x00 ∷ 0x09 ∷ 0x00 ∷ 0x06 ∷ 0x00 ∷ 0x05 ∷ 0x00 ∷ 0x00 ∷ 0x00 ∷ 0x03 ∷ 0x00 ∷ 0x01 ∷ 0x00
+    -- thread 1: y=1, FENCE, load x
+    ∷ 0x03 ∷ 0x05 ∷ 0x00 ∷ 0x01 ∷ 0x01 ∷ 0x06 ∷ 0x00 ∷ 0x00 ∷ 0x00 ∷ 0x03 ∷ 0x00 ∷ 0x00 ∷ 0x00
+    -- all buffers empty, 4 clauses: both at their ends, each having loaded 0
+    ∷ 0x01 ∷ 0x04 ∷ 0x01 ∷ 0x00 ∷ 0x00 ∷ 0x06 ∷ 0x01 ∷ 0x01 ∷ 0x00 ∷ 0x03 ∷ 0x02 ∷ 0x00 ∷ 0x00 ∷ 0x00 ∷ 0x02 ∷ 0x01 ∷ 0x00 ∷ 0x00
     ∷ []
 
 -- two open stores, of which the later leads to the earlier load

@@ -22,3 +22,4 @@ pub mod Jobs
 pub mod Claims
 pub mod Pins
 pub mod Worked
+pub mod DeadCode

@@ -12,7 +12,8 @@ use Rattle.rules.specs.Fences.{fenced, open-at}
 use Rattle.rules.specs.Jobs.{p1, p2, p3, p4, p5, p6, p9, p10, p12, p9-sc, p9-sc-drained, p2-drained, no-instruction, waits-apart, three-to-one, own-newest, fence-waits, exchange, jump-over, either-order, oldest-first, stored-register}
 use Rattle.rules.specs.Jobs.{exchange-between, ends-and-moves, back-around, past-a-load, next-of-two, over-a-fence}
 use Rattle.rules.specs.Jobs.{in-memory, other-registers, widest, sixty-four, sixty-five, next-door, fifty-one, down-the-stairs, fullest, too-long, cut, cut-unknown, left-over}
-use Rattle.rules.specs.Jobs.{two-lengths, lengths-turned, nine-stores, behind-a-jump, two-stores-open, two-threads-open, last-thread-open, last-of-all, third-drains, highest-values, round-to-zero}
+use Rattle.rules.specs.Jobs.{two-lengths, lengths-turned, nine-stores, behind-a-jump, parked-store, two-stores-open, two-threads-open, last-thread-open, last-of-all, third-drains, highest-values, round-to-zero}
+use Rattle.rules.specs.Jobs.{set-0, load-x, store-x, fence, xchg-x, jeq-to, jmp-to, alone}
 use Rattle.rules.specs.Claims.{search-reaches, search-never, search-unknown, slots-follow, links-are, fences-say, replay-says, slot-after, enabled-after, refuses, Case, case}
 
 -- P1's states up to its goal, in the order of slots, each by its first shortest schedule
@@ -57,7 +58,7 @@ p1-links =
 -- slots, job, and what it pins
 unfoldable pub pins : List Case
 pins =
-    -- The verdict and refusal 7 go by these twelve, and name them by their places.
+    -- The verdict and refusal 7 go by these fourteen, and name them by their places.
     -- SC and FENCED with flag 0: what a verdict goes by
     case 640 p9-sc (search-never 22)
     -- the same: the fence check
@@ -82,6 +83,10 @@ pins =
     ∷ case 640 (set p1 5 0x05) (refuses 3 5)
     -- flag 2 is none
     ∷ case 640 (set p1 27 0x02) (refuses 5 27)
+    -- request 4: SC, flag 1, and FENCED though a store and a load stand behind a JMP
+    ∷ case 640 parked-store (search-never 30)
+    -- the same: the fence check
+    ∷ case 640 parked-store (fences-say fenced)
     -- The rest, in the order of the paper.
     -- a load takes the newest own store: 1 is not loaded once 2 is pending
     ∷ case 640 own-newest (search-never 9)
@@ -187,15 +192,53 @@ pins =
     ∷ case 640 next-of-two (fences-say (open-at 0 0 2))
     -- JMP goes to its place, not on
     ∷ case 640 over-a-fence (fences-say (open-at 0 0 3))
-    -- every place counts, run or not
-    ∷ case 640 behind-a-jump (fences-say (open-at 0 1 2))
+    -- request 4, "a pair counts only if its store place can be reached": not over a JMP
+    ∷ case 640 behind-a-jump (fences-say fenced)
+    -- nor behind a loop that never ends
+    ∷ case 640 (alone (jmp-to 0 ∷ store-x ∷ load-x ∷ [])) (fences-say fenced)
+    -- nor behind a longer one with a FENCE
+    ∷ case 640 (alone (set-0 ∷ fence ∷ jmp-to 0 ∷ store-x ∷ load-x ∷ [])) (fences-say fenced)
+    -- nor in code that only dead code leads to: the next place, a JMP
+    ∷ case 640 (alone (jmp-to 5 ∷ set-0 ∷ jmp-to 3 ∷ store-x ∷ load-x ∷ [])) (fences-say fenced)
+    -- a JEQ
+    ∷ case 640 (alone (jmp-to 6 ∷ jeq-to 4 ∷ set-0 ∷ jmp-to 6 ∷ store-x ∷ load-x ∷ [])) (fences-say fenced)
+    -- the store's own loop
+    ∷ case 640 (alone (jmp-to 4 ∷ store-x ∷ load-x ∷ jmp-to 1 ∷ [])) (fences-say fenced)
+    -- a JMP back revives it
+    ∷ case 640 (alone (jmp-to 3 ∷ store-x ∷ load-x ∷ jmp-to 1 ∷ [])) (fences-say (open-at 0 1 2))
+    -- and a JEQ back
+    ∷ case 640 (alone (jmp-to 3 ∷ store-x ∷ load-x ∷ jeq-to 1 ∷ [])) (fences-say (open-at 0 1 2))
+    -- "by successor moves", whatever they lead through: a FENCE
+    ∷ case 640 (alone (fence ∷ store-x ∷ load-x ∷ [])) (fences-say (open-at 0 1 2))
+    -- an XCHG
+    ∷ case 640 (alone (xchg-x ∷ store-x ∷ load-x ∷ [])) (fences-say (open-at 0 1 2))
+    -- a FENCE, and a JMP back from it
+    ∷ case 640 (alone (jmp-to 3 ∷ store-x ∷ load-x ∷ fence ∷ jmp-to 1 ∷ [])) (fences-say (open-at 0 1 2))
+    -- a store, whose own walk that FENCE ends
+    ∷ case 640 (alone (store-x ∷ fence ∷ store-x ∷ load-x ∷ [])) (fences-say (open-at 0 2 3))
+    -- behind a JEQ that in runs always jumps: moves decide, not runs
+    ∷ case 640 (alone (jeq-to 3 ∷ store-x ∷ load-x ∷ [])) (fences-say (open-at 0 1 2))
+    -- a load in dead code, to which no live store leads
+    ∷ case 640 (alone (store-x ∷ jmp-to 3 ∷ load-x ∷ [])) (fences-say fenced)
+    -- a live load, to which only a dead store leads
+    ∷ case 640 (alone (jmp-to 2 ∷ store-x ∷ load-x ∷ [])) (fences-say fenced)
+    -- the least among the pairs that count: a later store
+    ∷ case 640 (alone (jmp-to 3 ∷ store-x ∷ load-x ∷ store-x ∷ load-x ∷ [])) (fences-say (open-at 0 3 4))
+    -- a later thread
+    ∷ case 640 (set (set two-threads-open 9 0x09) 11 0x03) (fences-say (open-at 1 0 1))
+    -- every instruction a jump
+    ∷ case 640 (alone (jmp-to 2 ∷ jmp-to 0 ∷ jmp-to 1 ∷ [])) (fences-say fenced)
+    -- no instruction at all
+    ∷ case 640 no-instruction (fences-say fenced)
+    -- the parked store with a JMP to it
+    ∷ case 640 (set parked-store 24 0x04) (fences-say (open-at 0 4 5))
     -- the least store comes before the least load
     ∷ case 640 two-stores-open (fences-say (open-at 0 2 3))
     -- the least thread before the least store
     ∷ case 640 two-threads-open (fences-say (open-at 0 1 2))
     -- every thread is looked at; STORE is a store; PSO too
     ∷ case 640 last-thread-open (fences-say (open-at 3 0 1))
-    -- store and load of one variable are a pair too
+    -- "place 0 itself counts", with no move that leads to it; store and load of one variable are a pair too
     ∷ case 640 p4 (fences-say (open-at 0 0 1))
     -- T 4, V 8 and K 16 are accepted; each thread has its own step
     ∷ case 640 widest (search-reaches 16 (0x00 ∷ 0x01 ∷ 0x02 ∷ 0x03 ∷ []))
@@ -227,8 +270,12 @@ pins =
     ∷ case 640 (set (set (set sixty-four 257 0x05) 261 0x09) 9 0x03) (fences-say (open-at 0 62 0))
     -- and on from there: a load at place 1
     ∷ case 640 (set (set (set sixty-four 257 0x05) 261 0x09) 13 0x03) (fences-say (open-at 0 62 1))
-    -- a walk over every place: up to the last, then down over all others
-    ∷ case 640 down-the-stairs (fences-say (open-at 0 62 0))
+    -- a store at place 62 to which no move leads
+    ∷ case 640 down-the-stairs (fences-say fenced)
+    -- a JEQ at place 0 to it, and a walk over every other place: up to the last, then down to a load at place 1
+    ∷ case 640 (set (set (set down-the-stairs 9 0x08) 11 0x3E) 13 0x03) (fences-say (open-at 0 62 1))
+    -- a JMP at place 0 to the last, and from there down over the others to a store at place 1
+    ∷ case 640 (set (set (set (set (set (set down-the-stairs 9 0x09) 11 0x3F) 13 0x05) 17 0x03) 19 0x00) 23 0x01) (fences-say (open-at 0 1 2))
     -- a pair in the middle
     ∷ case 640 (set (set sixty-four 137 0x05) 141 0x03) (fences-say (open-at 0 32 33))
     -- a FENCE at place 32

@@ -4,6 +4,7 @@ pub mod Own
 pub mod Roles
 pub mod Behind
 pub mod Steps
+pub mod Live
 pub mod Calm
 pub mod ScToTso
 pub mod Delayed

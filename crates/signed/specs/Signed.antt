@@ -17,6 +17,7 @@ use Rattle.rules.specs.Fences.{fenced, ChecksTo}
 use Rattle.rules.specs.Sound.{JobIn}
 use Rattle.rules.specs.declared.Model.the-variants.{Sc, Tso}
 pub use Rattle.signed.specs.Under.{under, AllEmpty, all-empty-test}
+use Rattle.signed.specs.Live.{start-live}
 use Rattle.signed.specs.Calm.{start-calm}
 use Rattle.signed.specs.ScToTso.{sc-to-tso}
 use Rattle.signed.specs.Delayed.{start-delayed, delayed-empty}
@@ -29,7 +30,7 @@ pub signed : (j : Job) → JobIn j → ChecksTo (j .threads) fenced → (c : ℕ
 unfolding start
 signed j ok passes c room x empty = (
   λ r.
-      let f = followed j ok passes c (r .way) (start j) (start j) x (start-delayed j) (r .leads) in
+      let f = followed j ok passes c (r .way) (start j) (start j) x (start-live j) (start-delayed j) (r .leads) in
       subst (Reached (machine (under Sc 0 j))) (delayed-empty j (f .state) x (f .delayed) empty) (record { way = f .way; leads = f .leads }),
   λ r.
       let f = sc-to-tso j ok c room (r .way) (start j) x (start-calm j) (r .leads) in

@@ -18,7 +18,7 @@ use Rattle.rules.specs.Job.{Job}
 use Rattle.rules.specs.Kinds.{control-of, wait-of, role-of}
 use Rattle.rules.specs.Step.{oldest-to, without-oldest-to, is-empty, free, is-oldest-to, may-flush, carried, stored, changed, place-after, executed, flushed, next}
 use Rattle.rules.specs.Machine.{machine}
-use Rattle.rules.specs.Fences.{OpenIn, Open, fenced, ChecksTo}
+use Rattle.rules.specs.Fences.{Unfenced, Open, fenced, ChecksTo}
 use Rattle.rules.specs.FenceCheck.{role-there}
 use Rattle.rules.specs.Sound.{JobIn}
 use Rattle.rules.specs.declared.Model.the-variants.{Sc, Tso}
@@ -31,6 +31,7 @@ use Rattle.signed.specs.Own.{OwnPart, own, onwards, carries, goes-on, al
 use Rattle.signed.specs.Roles.{ByRole, is-store, is-load, is-wait, is-quiet, by-role, Quiet, quiet-no-load}
 use Rattle.signed.specs.Behind.{made, Waits, Behind, waits-quiet, behind-store, store-role, waits-walk}
 use Rattle.signed.specs.Steps.{code, code-there, Ran, Flushed, instr-in, next-either, run-then}
+use Rattle.signed.specs.Live.{AllLive, run-live}
 use Rattle.signed.specs.Calm.{calm-changed, sc-next, sc-does}
 use Rattle.signed.specs.Delayed.{Delayed, delayed-but, CaughtUp, catch-up}
 
@@ -109,20 +110,20 @@ module _ (j : Job) (ok : JobIn j) (t : ℕ) (low : t < most-threads) (x y : Stat
         }
 
     -- a load with a store pending would be an open pair
-    open-pair : role-of i ≡ Loads → (p : Pending) (b : List Pending) → buffer t y ≡ p ∷ b
+    open-pair : AllLive j x → role-of i ≡ Loads → (p : Pending) (b : List Pending) → buffer t y ≡ p ∷ b
         → Open (j .threads) t (own t x .place) (own t y .place)
     unfolding own
-    open-pair load p b e =
+    open-pair live load p b e =
         let w = waits-for p b e in
         let r = waits-walk (code j t) w in
-        let pair : OpenIn (code j t) (place t x) (place t y) =
+        let pair : Unfenced (code j t) (place t x) (place t y) =
         record {
           store = store-role (code j t) (w .source) (w .to) (place t x) (w .at-store);
           load = role-there (code j t) (place t y) i at ∙ load;
           between = r .0;
           walk = r .1;
         } in
-        record { code = code j t; thread-is = code-there j t (place t y) i at; pair = pair }
+        record { code = code j t; thread-is = code-there j t (place t y) i at; is-open = record { pair = pair; live = live t } }
 
   -- a store joins the pending ones
   store-step : (a : Source) (v : ℕ) → getElem? (code j t) (place t y) ≡ some (Store a v) → Follows j x (executed Tso t (Store a v) y)
@@ -152,14 +153,14 @@ module _ (j : Job) (ok : JobIn j) (t : ℕ) (low : t < most-threads) (x y : Stat
             (behind-store (code j t) (own t x) (own t y) (buffer t y) a v at (d .threads t)));
       }
 
-  module _ (passes : ChecksTo (j .threads) fenced) (capacity : ℕ) where
+  module _ (passes : ChecksTo (j .threads) fenced) (live : AllLive j x) (capacity : ℕ) where
     -- what the role of the instruction allows: with a store pending a load would be open, and a fence waits
     step-of : (i : Instr) → ByRole i → getElem? (code j t) (place t y) ≡ some i → free Tso capacity (wait-of i) (buffer t y) ≡ true
         → (b : List Pending) → buffer t y ≡ b → Follows j x (executed Tso t i y)
     unfolding executed free is-empty
     step-of i (is-store a v) at may b e = store-step a v at
     step-of i (is-load role alike) at may [] e = rw (alike Tso Sc t y) (both-step i at e)
-    step-of i (is-load role alike) at may (p ∷ b) e = absurd (passes t _ _ (open-pair i at role p b e))
+    step-of i (is-load role alike) at may (p ∷ b) e = absurd (passes t _ _ (open-pair i at live role p b e))
     step-of i (is-wait wait alike) at may [] e = rw (alike Tso Sc t y) (both-step i at e)
     step-of i (is-wait wait alike) at may (p ∷ b) e = absurd (false≢true (rw (wait, e) at may))
     step-of i (is-quiet q alike) at may [] e = rw (alike Tso Sc t y) (both-step i at e)
@@ -215,24 +216,26 @@ module _ (j : Job) (ok : JobIn j) (t : ℕ) (low : t < most-threads) (x y : Stat
       }
 
 module _ (j : Job) (ok : JobIn j) (passes : ChecksTo (j .threads) fenced) (c : ℕ) where
-  follows-step : (s : ℕ) (x y y′ : State) → Delayed j x y → next (under Tso c j) s y ≡ some y′ → Follows j x y′
+  follows-step : (s : ℕ) (x y y′ : State) → AllLive j x → Delayed j x y → next (under Tso c j) s y ≡ some y′ → Follows j x y′
   unfolding may-flush
-  follows-step s x y y′ d e = which (next-either (under Tso c j) s y y′ e)
+  follows-step s x y y′ live d e = which (next-either (under Tso c j) s y y′ e)
     where
       which : Ran (under Tso c j) s y y′ ⊎ ((t : ℕ) × (v : ℕ) × Flushed (under Tso c j) t v y y′) → Follows j x y′
       which (inl r) =
-          subst (Follows j x) (r .is) (step-of j ok s (r .low) x y d passes c (r .instr) (by-role (r .instr)) (r .stands) (r .may) (buffer s y) refl)
+          subst (Follows j x) (r .is) (step-of j ok s (r .low) x y d passes live c (r .instr) (by-role (r .instr)) (r .stands) (r .may) (buffer s y) refl)
       which (inr (t, v, f)) = subst (Follows j x) (f .is) (flush-step j ok t (f .low) x y d v (flush-took v (buffer t y) (f .may)))
 
-  pub followed : (w : List ℕ) (x y z : State) → Delayed j x y → run (machine (under Tso c j)) w y ≡ some z → Follows j x z
-  followed [] x y z d e =
+  -- the SC state keeps to live places, as every run does
+  pub followed : (w : List ℕ) (x y z : State) → AllLive j x → Delayed j x y → run (machine (under Tso c j)) w y ≡ some z → Follows j x z
+  followed [] x y z live d e =
       let f : some y ≡ some z = e in
       let same : y ≡ z = cc in
       record { way = []; state = x; leads = refl; delayed = subst (Delayed j x) same d }
-  followed (s ∷ w) x y z d e =
+  followed (s ∷ w) x y z live d e =
       let r = andThen-some (next (under Tso c j) s y) (run (machine (under Tso c j)) w) z e in
-      let one = follows-step s x y (r .0) d (r .1) in
-      let rest = followed w (one .state) (r .0) z (one .delayed) (r .2) in
+      let one = follows-step s x y (r .0) live d (r .1) in
+      let still = run-live (under Sc 0 j) (one .way) x (one .state) (one .leads) live in
+      let rest = followed w (one .state) (r .0) z still (one .delayed) (r .2) in
       record {
         way = one .way ++ rest .way;
         state = rest .state;

@@ -1,5 +1,5 @@
 -- From the four words that a search or a fence check answers back to what they mean.
-use mathlib.Core.Path.{_≡_, sym, _∙_, ap, subst}
+use mathlib.Core.Path.{_≡_, refl, sym, _∙_, ap, subst}
 use mathlib.Core.Logic.{_↔_}
 use mathlib.Core.List.{List, [], _∷_}
 use Prim.Native.Nat.{ℕ, zero, suc}
@@ -17,6 +17,7 @@ use Rattle.rules.specs.Slot.{slot-bytes}
 use Rattle.rules.specs.Machine.{machine}
 use Rattle.rules.specs.Same.{searchable}
 use Rattle.rules.specs.Fences.{Checked, fenced, open-at, ChecksTo}
+use Rattle.rules.specs.DeadCode as dead-code
 use Rattle.fences.specs.Meaning as fences
 use Rattle.lent.specs.Meaning.{Lent, filled, AnsweredWith}
 use Rattle.search.specs.Meaning.{slots-of, SearchOf, SearchPromise}
@@ -115,3 +116,11 @@ passed bytes j is h = let k = subst (λ r. fences.FenceOf r fenced-words) is h i
     which : (a : Checked) → ChecksTo (j .threads) a → fenced-words ≡ fences.checked-words a → ChecksTo (j .threads) fenced
     which fenced m e = m
     which (open-at t s l) m e = absurd (let f : 1 ≡ 2 = ap (word 0) e in omega arith)
+
+-- a file that 01 alone passed is still answered FENCED
+pub passed-still : (bytes : List ℕ) (j : Job) → decode bytes ≡ accepted j → dead-code.PassedBefore (j .threads)
+    → (ws : List ℕ) → fences.FencePromise bytes ws → ws ≡ fenced-words
+passed-still bytes j is before ws h =
+    fences.fences-once bytes ws fenced-words h
+    (fences.fences-accepted bytes fenced-words j is
+    (record { checked = fenced; means = dead-code.passed-still (j .threads) before; answer = refl }))

@@ -14,7 +14,7 @@ use Rattle.rules.specs.File.{instruction-of, instruction, thread, flag-of, clau
 use Rattle.rules.specs.File.{accepted, refused, decoded, decode, held-job, job-of}
 use Rattle.rules.specs.Fences.{fenced, open-at}
 use Rattle.rules.specs.declared.Model.the-variants.{Sc, Tso, Pso}
-use Rattle.rules.specs.Jobs.{p1, p2, p4, p6, p7, p9, p12, p9-sc, p9-sc-drained, p2-drained}
+use Rattle.rules.specs.Jobs.{p1, p2, p4, p6, p7, p9, p12, p9-sc, p9-sc-drained, p2-drained, parked-store}
 use Rattle.rules.specs.Claims.{Case, case, CaseHolds, search-reaches, search-never, search-unknown, fences-say, row-refuses, row-accepts}
 use Rattle.rules.specs.Pins.{pins}
 use Rattle.rules.specs.Worked.{table, worked, pinned}
@@ -57,6 +57,8 @@ verdicts =
     ∷ row 640 p9 release
     -- SC, FENCED, flag 1
     ∷ row 640 p9-sc-drained release
+    -- the same with a store and a load behind a JMP: an OPEN and HOLD before request 4
+    ∷ row 640 parked-store release
     -- SC, FENCED, flag 0
     ∷ row 640 p9-sc hold
     -- SC, OPEN, flag 1
@@ -114,8 +116,9 @@ heads-are :
     × (job-of p7 .model ≡ Pso)
     × (job-of (set p4 17 0x01) .model ≡ Tso)
     × (job-of (set p4 3 0x02) .model ≡ Pso)
-unfolding p1 p2 p4 p6 p7 p9 p9-sc p9-sc-drained p2-drained job-of held-job decode read-on _>>=_ done times judged byte item field model-of in-range capacity-of register-ok zero-ok instruction-of instruction thread flag-of clause-of clause ended fields length-ok decoded
-heads-are = (refl, refl, refl, refl, refl, refl, refl, refl, refl, refl, refl)
+    × (job-of parked-store .all-empty ≡ true)
+unfolding p1 p2 p4 p6 p7 p9 p9-sc p9-sc-drained p2-drained parked-store job-of held-job decode read-on _>>=_ done times judged byte item field model-of in-range capacity-of register-ok zero-ok instruction-of instruction thread flag-of clause-of clause ended fields length-ok decoded
+heads-are = (refl, refl, refl, refl, refl, refl, refl, refl, refl, refl, refl, refl)
 
 -- The ways to HOLD: an answer that is not "unreachable"; under SC flag 0, or OPEN; a refusal.
 module _ (r : Row) (says : r .says ≡ hold) where
@@ -182,6 +185,13 @@ p9-sc-drained-released =
     never-released (row 640 p9-sc-drained release) 22 refl (is-accepted pins pinned p9-sc-drained 22 2 refl)
     (is-never pins pinned p9-sc-drained 22 2 refl pins-listed)
     (λ cs f sc. (heads-are .3, all-nth CaseFixed pins pins-listed 3 (case 640 p9-sc-drained (fences-say fenced)) refl (omega arith) cs f))
+
+parked-store-released : Judged (row 640 parked-store release)
+unfolding pins
+parked-store-released =
+    never-released (row 640 parked-store release) 30 refl (is-accepted pins pinned parked-store 30 12 refl)
+    (is-never pins pinned parked-store 30 12 refl pins-listed)
+    (λ cs f sc. (heads-are .11, all-nth CaseFixed pins pins-listed 13 (case 640 parked-store (fences-say fenced)) refl (omega arith) cs f))
 
 p9-sc-held : Judged (row 640 p9-sc hold)
 p9-sc-held = flag-unset (row 640 p9-sc hold) refl (heads-are .4) (heads-are .5)
@@ -251,4 +261,4 @@ sc-unknown-held =
 pub verdicts-are : All Judged verdicts
 unfolding verdicts
 verdicts-are =
-    (p1-held, (p2-held, (p9-released, (p9-sc-drained-released, (p9-sc-held, (p2-drained-held, (p4-released, (p4-drained-released, (p4-pso-released, (p7-released, (refused-held, (empty-held, (blank-held, (no-slot-held, (unknown-held, (sc-unknown-held, tt))))))))))))))))
+    (p1-held, (p2-held, (p9-released, (p9-sc-drained-released, (parked-store-released, (p9-sc-held, (p2-drained-held, (p4-released, (p4-drained-released, (p4-pso-released, (p7-released, (refused-held, (empty-held, (blank-held, (no-slot-held, (unknown-held, (sc-unknown-held, tt)))))))))))))))))

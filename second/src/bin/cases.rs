@@ -1,12 +1,12 @@
 //! Writes the cases that a proved program is run on, and the output that this checker expects of it.
 
-use second::long_threads::counts_line;
+use second::classes::counts_line;
 use second::{fence_cases, job_cases, replay_cases, search_cases};
 use std::path::Path;
 use std::process::ExitCode;
 use std::{env, fs, io};
 
-const USAGE: &str = "use one of (each writes DIR/stdin and DIR/stdout, and prints how many cases have long threads):
+const USAGE: &str = "use one of (each writes DIR/stdin and DIR/stdout, and prints how many cases have long threads, fences also how many have dead code):
   cases job DIR
   cases search DIR
   cases replay DIR
@@ -39,7 +39,7 @@ struct Kind {
     cases: Vec<u8>,
     /// What the program under test has to print.
     lines: String,
-    /// How many of the cases have long threads.
+    /// How many of the cases have long threads, and for the fence check dead code.
     counts: String,
 }
 
@@ -84,10 +84,16 @@ fn of_replay() -> Kind {
 fn of_fence_check() -> Kind {
     let cases = fence_cases::all();
     let lines = cases.iter().map(|job| fence_cases::line(job) + "\n");
+    let long_threads = fence_cases::counts_of_long_threads();
+    let dead_code = fence_cases::counts_of_dead_code();
     Kind {
         cases: cases.iter().flat_map(|job| counted(job)).collect(),
         lines: lines.collect(),
-        counts: counts_line("fence_cases", &fence_cases::counts_of_long_threads()),
+        counts: [
+            counts_line("fence_cases", &long_threads),
+            counts_line("fence_cases, dead code", &dead_code),
+        ]
+        .join("\n"),
     }
 }
 

@@ -1,18 +1,11 @@
--- `fences::open_load` meets its contract: where a store stands, the loads met are the open ones; elsewhere there are none.
-use mathlib.Core.Path.{sym, _∙_}
-use mathlib.Core.List.{[], _∷_}
+-- `fences::open_load` meets its contract: where a store that counts stands, the loads met are the open ones; elsewhere there are none.
 use borrow.Author.Needs.{needs}
-use Rattle.rules.specs.declared.Role.the-variants.{Stores}
-use Rattle.fences.specs.Places.{none-below, open-of}
-use Rattle.fences.proofs.ReadLaws.{other-role}
+use Rattle.fences.specs.Places.{none-below, open-of, open-none}
 use Rattle.fences.proofs.open_load.Statement.{statement}
 use Rattle.fences.proofs.open_load.Tie as tie
 
-role-at-requires : tie.Need-role-at-requires
-role-at-requires c κs = search needs
-
-enum-told : tie.Need-enum-told
-enum-told c = search needs
+is-live-store-requires : tie.Need-is-live-store-requires
+is-live-store-requires c κs = search needs
 
 places-met-requires : tie.Need-places-met-requires
 places-met-requires c κs = search needs
@@ -25,20 +18,19 @@ code-length-requires c κs = search needs
 
 returns : tie.Need-returns
 returns c =
-    open-of _ _ (sym (c .before .before .before .before .role-at .ensures) ∙ c .before .before .enum-told .given .1) _ _
+    open-of _ _ (c .before .before .before .before .before .pre .1) _ (c .before .before .before .is-live-store .ensures .yes (c .before .before .if1 .taken)) _ _
     (c .before .places-met .ensures) (c .least-load .ensures)
 
 returns-2 : tie.Need-returns-2
 returns-2 c =
     none-below _ _ _ (c .code-length .ensures)
-    (λ l below o. other-role (1 ∷ 2 ∷ 3 ∷ []) _ Stores (c .before .match .keys2) tt (c .before .before .role-at .ensures ∙ o .store))
+    (λ l below. open-none _ _ (c .before .before .before .before .pre .1) _ (c .before .before .is-live-store .ensures .no (c .before .if1 .left)) l)
 
 pub open-load-spec : {M : Type 1} → statement M
 open-load-spec =
     tie.close
     (tie.spec
-    role-at-requires
-    enum-told
+    is-live-store-requires
     places-met-requires
     least-load-requires
     code-length-requires
