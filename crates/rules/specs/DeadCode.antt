@@ -17,7 +17,7 @@ use Rattle.rules.specs.Pins.{pins}
 use Rattle.rules.specs.Worked.{pinned}
 use Rattle.rules.specs.declared.Source.the-variants.{Constant}
 use Rattle.rules.specs.declared.Instr.{Instr}
-use Rattle.rules.specs.declared.Instr.the-variants.{Load, Store, Fence, Jmp}
+use Rattle.rules.specs.declared.Instr.the-variants.{Load, Store, Fence, Jeq, Jmp}
 
 -- "Every place counts, run or not.": what 01 alone passes
 abbrev pub PassedBefore : List (List Instr) → Type 0
@@ -32,16 +32,17 @@ pub dead-code-alone : (threads : List (List Instr)) → ChecksTo threads fenced
 dead-code-alone threads passes t s l code is pair live =
     passes t s l (record { code = code; thread-is = is; is-open = record { pair = pair; live = live } })
 
--- The worked job: thread 0 of `parked-store`, and the store at place 4 behind its JMP.
+-- The worked job: thread 0 of `parked-store`, and the store at place 1 behind its JMP.
 
 parked-code : List Instr
-parked-code = Store (Constant 1) 0 ∷ Fence ∷ Load 0 1 ∷ Jmp 6 ∷ Store (Constant 0) 0 ∷ Load 0 1 ∷ []
+parked-code =
+    Jmp 5 ∷ Store (Constant 1) 0 ∷ Load 0 1 ∷ Jeq 0 2 1 ∷ Jmp 9 ∷ Store (Constant 1) 0 ∷ Fence ∷ Load 0 1 ∷ Jeq 0 7 1 ∷ Store (Constant 0) 0 ∷ Jmp 5 ∷ []
 
 parked-thread : getElem? (job-of parked-store .threads) 0 ≡ some parked-code
 unfolding parked-code parked-store job-of held-job decode read-on _>>=_ done times judged byte item field model-of in-range capacity-of register-ok zero-ok instruction-of instruction thread flag-of clause-of clause ended fields length-ok decoded
 parked-thread = refl
 
-parked-pair : Unfenced parked-code 4 5
+parked-pair : Unfenced parked-code 1 2
 unfolding parked-code role-at role-of successors onward-at onward control-of
 parked-pair = record { store = refl; load = refl; between = []; walk = inl refl }
 
@@ -49,7 +50,7 @@ parked-pair = record { store = refl; load = refl; between = []; walk = inl refl 
 pub more-are-passed : (¬ (PassedBefore (job-of parked-store .threads))) × ChecksTo (job-of parked-store .threads) fenced
 unfolding pins
 more-are-passed = (
-  λ before. before 0 4 5 parked-code parked-thread parked-pair,
+  λ before. before 0 1 2 parked-code parked-thread parked-pair,
   subst (Meant 640 (fences-say fenced)) (row-accepts pins pinned 13 640 parked-store (fences-say fenced) refl refl)
       (all-nth CaseHolds pins pinned 13 (case 640 parked-store (fences-say fenced)) refl),
 )

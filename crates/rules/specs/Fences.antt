@@ -22,7 +22,7 @@ onward p On = suc p ∷ []
 onward p (To q) = q ∷ []
 onward p (ToIf r k q) = suc p ∷ q ∷ []
 
--- a place without an instruction, as place n, has no successors
+-- "at place n it has ended": a place without an instruction has no successors
 unfoldable pub onward-at : ℕ → Option Instr → List ℕ
 onward-at p none = []
 onward-at p (some i) = onward p (control-of i)
@@ -50,19 +50,19 @@ Walk by code p (m ∷ between) q = Move code p m × Passes by (role-at code m) �
 abbrev pub Leads : Passing → List Instr → ℕ → ℕ → Type 0
 Leads by code p q = (between : List ℕ) × Walk by code p between q
 
--- "A pair (store place, load place) in one thread is open when a walk of one or more moves leads from store to load with no FENCE or
--- XCHG strictly between."
+-- 01's own open pair: "a walk of one or more moves leads from store to load with no FENCE or XCHG strictly between"
 pub record Unfenced (code : List Instr) (s l : ℕ) : Type 0 where
   pub store : role-at code s ≡ Stores
   pub load : role-at code l ≡ Loads
   pub between : List ℕ
   pub walk : Walk NoFence code s between l
 
--- "can be reached by successor moves from place 0 of its thread (place 0 itself counts)", through any instructions: moves decide, not runs
+-- "can be reached by successor moves from place 0 of its thread (place 0 itself counts)": no move, or a walk through any instructions;
+-- moves decide, not runs
 abbrev pub Live : List Instr → ℕ → Type 0
 Live code p = (p ≡ 0) ⊎ Leads Anything code 0 p
 
--- 02, request 4: "a pair counts only if its store place can be reached"
+-- "a pair counts only if its store place can be reached" (request 4, in place of 01's "Every place counts, run or not.")
 pub record OpenIn (code : List Instr) (s l : ℕ) : Type 0 where
   pub pair : Unfenced code s l
   pub live : Live code s

@@ -13,7 +13,7 @@ use Rattle.rules.specs.Jobs.{p1, p2, p3, p4, p5, p6, p9, p10, p12, p9-sc
 use Rattle.rules.specs.Jobs.{exchange-between, ends-and-moves, back-around, past-a-load, next-of-two, over-a-fence}
 use Rattle.rules.specs.Jobs.{in-memory, other-registers, widest, sixty-four, sixty-five, next-door, fifty-one, down-the-stairs, fullest, too-long, cut, cut-unknown, left-over}
 use Rattle.rules.specs.Jobs.{two-lengths, lengths-turned, nine-stores, behind-a-jump, parked-store, two-stores-open, two-threads-open, last-thread-open, last-of-all, third-drains, highest-values, round-to-zero}
-use Rattle.rules.specs.Jobs.{set-0, load-x, store-x, fence, xchg-x, jeq-to, jmp-to, alone}
+use Rattle.rules.specs.Jobs.{set-0, add-0, load-x, store-r, store-x, fence, xchg-x, jeq-to, jmp-to, alone}
 use Rattle.rules.specs.Claims.{search-reaches, search-never, search-unknown, slots-follow, links-are, fences-say, replay-says, slot-after, enabled-after, refuses, Case, case}
 
 -- P1's states up to its goal, in the order of slots, each by its first shortest schedule
@@ -84,7 +84,7 @@ pins =
     -- flag 2 is none
     ∷ case 640 (set p1 27 0x02) (refuses 5 27)
     -- request 4: SC, flag 1, and FENCED though a store and a load stand behind a JMP
-    ∷ case 640 parked-store (search-never 30)
+    ∷ case 640 parked-store (search-never 63)
     -- the same: the fence check
     ∷ case 640 parked-store (fences-say fenced)
     -- The rest, in the order of the paper.
@@ -202,10 +202,14 @@ pins =
     ∷ case 640 (alone (jmp-to 5 ∷ set-0 ∷ jmp-to 3 ∷ store-x ∷ load-x ∷ [])) (fences-say fenced)
     -- a JEQ
     ∷ case 640 (alone (jmp-to 6 ∷ jeq-to 4 ∷ set-0 ∷ jmp-to 6 ∷ store-x ∷ load-x ∷ [])) (fences-say fenced)
+    -- a FENCE and an XCHG
+    ∷ case 640 (alone (jmp-to 6 ∷ store-x ∷ xchg-x ∷ fence ∷ store-x ∷ load-x ∷ [])) (fences-say fenced)
     -- the store's own loop
     ∷ case 640 (alone (jmp-to 4 ∷ store-x ∷ load-x ∷ jmp-to 1 ∷ [])) (fences-say fenced)
     -- a JMP back revives it
     ∷ case 640 (alone (jmp-to 3 ∷ store-x ∷ load-x ∷ jmp-to 1 ∷ [])) (fences-say (open-at 0 1 2))
+    -- the least store is named, not the one that is met first
+    ∷ case 640 (alone (jmp-to 3 ∷ store-x ∷ load-x ∷ store-x ∷ jmp-to 1 ∷ [])) (fences-say (open-at 0 1 2))
     -- and a JEQ back
     ∷ case 640 (alone (jmp-to 3 ∷ store-x ∷ load-x ∷ jeq-to 1 ∷ [])) (fences-say (open-at 0 1 2))
     -- "by successor moves", whatever they lead through: a FENCE
@@ -214,10 +218,20 @@ pins =
     ∷ case 640 (alone (xchg-x ∷ store-x ∷ load-x ∷ [])) (fences-say (open-at 0 1 2))
     -- a FENCE, and a JMP back from it
     ∷ case 640 (alone (jmp-to 3 ∷ store-x ∷ load-x ∷ fence ∷ jmp-to 1 ∷ [])) (fences-say (open-at 0 1 2))
-    -- a store, whose own walk that FENCE ends
+    -- a store, and the FENCE that ends its own walk
     ∷ case 640 (alone (store-x ∷ fence ∷ store-x ∷ load-x ∷ [])) (fences-say (open-at 0 2 3))
+    -- each operation that goes on
+    ∷ case 640 (alone (set-0 ∷ load-x ∷ add-0 ∷ store-r ∷ store-x ∷ fence ∷ xchg-x ∷ jeq-to 8 ∷ jmp-to 9 ∷ store-x ∷ load-x ∷ [])) (fences-say (open-at 0 9 10))
     -- behind a JEQ that in runs always jumps: moves decide, not runs
     ∷ case 640 (alone (jeq-to 3 ∷ store-x ∷ load-x ∷ [])) (fences-say (open-at 0 1 2))
+    -- a JEQ back, so that in runs the loop never ends
+    ∷ case 640 (alone (set-0 ∷ jeq-to 0 ∷ store-x ∷ load-x ∷ [])) (fences-say (open-at 0 2 3))
+    -- a JEQ to its own place
+    ∷ case 640 (alone (jeq-to 0 ∷ store-x ∷ load-x ∷ [])) (fences-say (open-at 0 1 2))
+    -- a JEQ to the next place
+    ∷ case 640 (alone (jeq-to 1 ∷ store-x ∷ load-x ∷ [])) (fences-say (open-at 0 1 2))
+    -- a JEQ to place n revives nothing
+    ∷ case 640 (alone (jeq-to 5 ∷ jmp-to 5 ∷ store-x ∷ load-x ∷ jmp-to 2 ∷ [])) (fences-say fenced)
     -- a load in dead code, to which no live store leads
     ∷ case 640 (alone (store-x ∷ jmp-to 3 ∷ load-x ∷ [])) (fences-say fenced)
     -- a live load, to which only a dead store leads
@@ -226,12 +240,16 @@ pins =
     ∷ case 640 (alone (jmp-to 3 ∷ store-x ∷ load-x ∷ store-x ∷ load-x ∷ [])) (fences-say (open-at 0 3 4))
     -- a later thread
     ∷ case 640 (set (set two-threads-open 9 0x09) 11 0x03) (fences-say (open-at 1 0 1))
+    -- "place 0 of its thread": P9, with a JMP over a store and a load in thread 1
+    ∷ case 640 (set (set (set (set p9 23 0x09) 25 0x03) 26 0x00) 27 0x05) (fences-say fenced)
+    -- its model makes no difference here: PSO
+    ∷ case 640 (set behind-a-jump 3 0x02) (fences-say fenced)
     -- every instruction a jump
     ∷ case 640 (alone (jmp-to 2 ∷ jmp-to 0 ∷ jmp-to 1 ∷ [])) (fences-say fenced)
     -- no instruction at all
     ∷ case 640 no-instruction (fences-say fenced)
-    -- the parked store with a JMP to it
-    ∷ case 640 (set parked-store 24 0x04) (fences-say (open-at 0 4 5))
+    -- jobs/parked-store-revived-sc: the JMP at place 10 leads to the parked store
+    ∷ case 640 (set parked-store 52 0x01) (fences-say (open-at 0 1 2))
     -- the least store comes before the least load
     ∷ case 640 two-stores-open (fences-say (open-at 0 2 3))
     -- the least thread before the least store
@@ -272,10 +290,14 @@ pins =
     ∷ case 640 (set (set (set sixty-four 257 0x05) 261 0x09) 13 0x03) (fences-say (open-at 0 62 1))
     -- a store at place 62 to which no move leads
     ∷ case 640 down-the-stairs (fences-say fenced)
-    -- a JEQ at place 0 to it, and a walk over every other place: up to the last, then down to a load at place 1
+    -- a JEQ at place 0 to it, and a walk from it over all places but 0: up to the last, then down to a load at place 1
     ∷ case 640 (set (set (set down-the-stairs 9 0x08) 11 0x3E) 13 0x03) (fences-say (open-at 0 62 1))
-    -- a JMP at place 0 to the last, and from there down over the others to a store at place 1
+    -- the other way: a JMP at place 0 to the last, and from there down to a store at place 1
     ∷ case 640 (set (set (set (set (set (set down-the-stairs 9 0x09) 11 0x3F) 13 0x05) 17 0x03) 19 0x00) 23 0x01) (fences-say (open-at 0 1 2))
+    -- a JMP over place 1, up over all others, and from the last back to a store there
+    ∷ case 640 (set (set (set (set (set (set sixty-four 9 0x09) 11 0x02) 13 0x05) 17 0x03) 261 0x09) 263 0x01) (fences-say (open-at 0 1 2))
+    -- a JMP over the last two places
+    ∷ case 640 (set (set (set (set sixty-four 253 0x09) 255 0x40) 257 0x05) 261 0x03) (fences-say fenced)
     -- a pair in the middle
     ∷ case 640 (set (set sixty-four 137 0x05) 141 0x03) (fences-say (open-at 0 32 33))
     -- a FENCE at place 32

@@ -57,7 +57,7 @@ verdicts =
     ∷ row 640 p9 release
     -- SC, FENCED, flag 1
     ∷ row 640 p9-sc-drained release
-    -- the same with a store and a load behind a JMP: an OPEN and HOLD before request 4
+    -- likewise, with a store and a load that a JMP leads past: OPEN and HOLD before request 4
     ∷ row 640 parked-store release
     -- SC, FENCED, flag 0
     ∷ row 640 p9-sc hold
@@ -189,8 +189,8 @@ p9-sc-drained-released =
 parked-store-released : Judged (row 640 parked-store release)
 unfolding pins
 parked-store-released =
-    never-released (row 640 parked-store release) 30 refl (is-accepted pins pinned parked-store 30 12 refl)
-    (is-never pins pinned parked-store 30 12 refl pins-listed)
+    never-released (row 640 parked-store release) 63 refl (is-accepted pins pinned parked-store 63 12 refl)
+    (is-never pins pinned parked-store 63 12 refl pins-listed)
     (λ cs f sc. (heads-are .11, all-nth CaseFixed pins pins-listed 13 (case 640 parked-store (fences-say fenced)) refl (omega arith) cs f))
 
 p9-sc-held : Judged (row 640 p9-sc hold)
