@@ -42,8 +42,8 @@ void handshake_search(const uint8_t *job, size_t job_length, uint8_t *table, siz
  *         3, i, 0, 0:           stuck at step i, counted from 0 */
 void handshake_replay(const uint8_t *job, size_t job_length, const uint8_t *schedule, size_t schedule_length, uint64_t answer[4]);
 
-/* Looks in each thread for a store and a later load with no FENCE or XCHG between; a store to which no moves lead from place 0 of its
- * thread does not count.
+/* Looks in each thread for a store and a later load with no FENCE or XCHG between. A store counts only if it stands at place 0 of its
+ * thread or moves lead to it from there.
  * answer: 0, number, offset, 0:   refused
  *         1, 0, 0, 0:             FENCED
  *         2, thread, store, load: OPEN, the least such places */

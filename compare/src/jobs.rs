@@ -311,7 +311,7 @@ fn parked_program(random: &mut Random, variables: usize, longest: usize) -> Prog
         program.push(jump_to(random, &routines));
     }
     program.truncate(longest);
-    within_its_end(with_ends(program))
+    within_its_end(program)
 }
 
 /// A store and a load that nothing stands between, or a fence; it ends, goes on or goes round.
@@ -330,7 +330,7 @@ fn routine(random: &mut Random, at: u8, announce: [u8; 4], look: [u8; 4]) -> Pro
     routine
 }
 
-/// A jump past what was cut off leads to the program's end.
+/// A jump past what was cut off leads to the program's end, and so does one to `END`, which is past every place.
 fn within_its_end(mut program: Program) -> Program {
     let end = program.len() as u8;
     for instruction in &mut program {

@@ -57,7 +57,7 @@ struct Comparison<'a> {
 impl Comparison<'_> {
     fn run(&mut self) {
         let job = jobs::job(&mut self.random, self.number);
-        self.tally.news(&job);
+        self.tally.of_requests(&job);
         match decode(&job) {
             Ok(decoded) => self.accepted(&job, &decoded),
             Err(refusal) => {

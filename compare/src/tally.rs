@@ -172,7 +172,7 @@ impl Tally {
     }
 
     /// What the requests have made new about a job, accepted or refused: long threads, and dead code.
-    pub fn news(&mut self, job: &[u8]) {
+    pub fn of_requests(&mut self, job: &[u8]) {
         let of_sections = [
             (LONG_THREADS, long_threads::of_job(job)),
             (LONG_THREAD_CHECKS, long_threads::of_fence_check(job)),

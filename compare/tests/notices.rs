@@ -5,7 +5,8 @@ use compare::call::{Call, Checker, Kind, Second};
 use compare::hold::hold;
 use compare::jobs;
 use compare::run::{run, Plan, Report};
-use second::fences::{is_barrier, live_places, open_run_or_not, OpenPair};
+use second::dead_code::{fences_shut, jeq_always_jumps, jeq_never_jumps, live_if, never_back};
+use second::fences::{live_places, open_run_or_not, OpenPair};
 use second::job::Instruction;
 use second::listed::{with_byte, P1};
 use second::long_threads::{
@@ -345,18 +346,8 @@ fn least(job: &Job, live: impl Fn(usize, &[Instruction]) -> BTreeSet<usize>) -> 
     pairs.find(|pair| live[pair.thread].contains(&pair.store))
 }
 
-/// What is live when the instructions are taken for others, which have other moves.
-fn live_if(
-    program: &[Instruction],
-    change: impl Fn(usize, Instruction) -> Instruction,
-) -> BTreeSet<usize> {
-    let changed = program.iter().enumerate();
-    let changed: Vec<_> = changed.map(|(place, &old)| change(place, old)).collect();
-    live_places(&changed)
-}
-
 #[test]
-fn the_right_fence_check_by_these_helpers_has_no_difference() {
+fn a_right_stand_in_for_the_fence_check_has_no_difference() {
     let right = Spoiling(checking(|job| {
         least(job, |_, program| live_places(program))
     }));
@@ -418,29 +409,8 @@ fn a_live_pair_that_a_dead_one_hides() {
 
 #[test]
 fn a_live_store_that_does_not_count() {
-    let stay = |place| Instruction::Jump { target: place };
-    let go_on = Instruction::Fence;
     // Behind a fence, behind a jump back, and on either way of a JEQ.
-    let fences_stop = move |place, instruction| match instruction {
-        barrier if is_barrier(barrier) => stay(place),
-        other => other,
-    };
-    let never_back = move |place, instruction| match instruction {
-        Instruction::Jump { target } if target < place => stay(place),
-        Instruction::JumpIfEqual { target, .. } if target < place => go_on,
-        other => other,
-    };
-    let jeq_jumps = |_, instruction| match instruction {
-        Instruction::JumpIfEqual { target, .. } => Instruction::Jump { target },
-        other => other,
-    };
-    let jeq_goes_on = move |_, instruction| match instruction {
-        Instruction::JumpIfEqual { .. } => go_on,
-        other => other,
-    };
-    let misread: [&(dyn Fn(usize, Instruction) -> Instruction + Sync); 4] =
-        [&fences_stop, &never_back, &jeq_jumps, &jeq_goes_on];
-    for change in misread {
+    for change in [fences_shut, never_back, jeq_always_jumps, jeq_never_jumps] {
         first_difference_of(
             FOR_DEAD_CODE,
             checking(move |job| least(job, |_, program| live_if(program, change))),

@@ -2,9 +2,11 @@
 
 use crate::classes::those_met;
 use crate::fences::{
-    is_barrier, live_places, open_pairs, open_run_or_not, places_after, stores, OpenPair,
+    is_barrier, live_in_threads, live_places, open_pairs, open_run_or_not, places_after, stores,
+    OpenPair,
 };
-use crate::job::{decode, Instruction, Job};
+use crate::job::{decode, Instruction};
+use std::collections::BTreeSet;
 
 pub const DEAD_STORE: &str = "a dead store";
 /// By thread.
@@ -50,42 +52,37 @@ pub fn of_job(job: &[u8]) -> Vec<&'static str> {
         Ok(job) => job,
         Err(_) => return Vec::new(),
     };
-    let programs = job.programs.iter();
-    let in_threads: Vec<bool> = programs.map(|program| has_dead_store(program)).collect();
+    let live = live_in_threads(&job);
+    let mut dead_pairs = open_run_or_not(&job);
+    dead_pairs.retain(|pair| !live[pair.thread].contains(&pair.store));
+    let to_live_load: Vec<bool> = dead_pairs
+        .iter()
+        .map(|pair| live[pair.thread].contains(&pair.load))
+        .collect();
+    let threads = || job.programs.iter().zip(&live);
+    let in_threads: Vec<bool> = threads()
+        .map(|(program, live)| has_dead_store(program, live))
+        .collect();
     let mut classes = vec![(DEAD_STORE, in_threads.contains(&true))];
     classes.extend(DEAD_STORE_IN.into_iter().zip(in_threads));
-    let dead_pair = |to_live| {
-        let mut pairs = open_run_or_not(&job).into_iter();
-        pairs.any(|pair| {
-            !is_live(&job, pair.thread, pair.store)
-                && to_live == is_live(&job, pair.thread, pair.load)
-        })
-    };
     classes.extend([
-        (OPEN_TO_DEAD_LOAD, dead_pair(false)),
-        (OPEN_TO_LIVE_LOAD, dead_pair(true)),
+        (OPEN_TO_DEAD_LOAD, to_live_load.contains(&false)),
+        (OPEN_TO_LIVE_LOAD, to_live_load.contains(&true)),
         (
             LIVE_THROUGH_FENCE,
-            job.programs
-                .iter()
-                .any(|program| has_store_behind_fences(program)),
+            threads().any(|(program, live)| has_store_behind_fences(program, live)),
         ),
     ]);
     those_met(&classes)
 }
 
-fn has_dead_store(program: &[Instruction]) -> bool {
-    let live = live_places(program);
+fn has_dead_store(program: &[Instruction], live: &BTreeSet<usize>) -> bool {
     stores(program).any(|store| !live.contains(&store))
 }
 
-fn has_store_behind_fences(program: &[Instruction]) -> bool {
-    let live = live_places(program);
-    stores(program).any(|store| live.contains(&store) && is_lost(program, store, fences_shut))
-}
-
-fn is_live(job: &Job, thread: usize, place: usize) -> bool {
-    live_places(&job.programs[thread]).contains(&place)
+fn has_store_behind_fences(program: &[Instruction], live: &BTreeSet<usize>) -> bool {
+    let before_fences = live_if(program, fences_shut);
+    stores(program).any(|store| live.contains(&store) && !before_fences.contains(&store))
 }
 
 /// The classes of `OF_FENCE_CHECKS` that a job is in.
@@ -100,10 +97,10 @@ pub fn of_fence_check(job: &[u8]) -> Vec<&'static str> {
         Some(least) => {
             let OpenPair { thread, store, .. } = least;
             let program = &job.programs[thread];
-            let hangs_on = |change| is_lost(program, store, change);
+            let hangs_on = |change| !live_if(program, change).contains(&store);
             those_met(&[
                 (LATER_PAIR, before != Some(least)),
-                (BY_THE_START, store == 0 && !is_led_back_to(program)),
+                (BY_THE_START, store == 0 && !leads_back_to_place_0(program)),
                 (BY_A_FENCE, hangs_on(fences_shut)),
                 (BY_A_JUMP_BACK, hangs_on(never_back)),
                 (BY_JUMPING, hangs_on(jeq_never_jumps)),
@@ -114,19 +111,19 @@ pub fn of_fence_check(job: &[u8]) -> Vec<&'static str> {
 }
 
 /// Whether a move leads from a live place to place 0.
-fn is_led_back_to(program: &[Instruction]) -> bool {
+fn leads_back_to_place_0(program: &[Instruction]) -> bool {
     let mut live = live_places(program).into_iter();
     live.any(|place| places_after(program, place).contains(&0))
 }
 
 /// Another instruction for the one at a place, which takes moves away.
-type Change = fn(usize, Instruction) -> Instruction;
+pub type Change = fn(usize, Instruction) -> Instruction;
 
-/// Whether the place is live no more when every instruction is changed so.
-fn is_lost(program: &[Instruction], place: usize, change: Change) -> bool {
+/// The places that stay live when every instruction is changed so.
+pub fn live_if(program: &[Instruction], change: Change) -> BTreeSet<usize> {
     let changed = program.iter().enumerate();
-    let changed: Vec<_> = changed.map(|(at, &old)| change(at, old)).collect();
-    !live_places(&changed).contains(&place)
+    let changed: Vec<_> = changed.map(|(place, &old)| change(place, old)).collect();
+    live_places(&changed)
 }
 
 /// Goes nowhere else.
@@ -139,7 +136,7 @@ const GO_ON: Instruction = Instruction::Add {
     value: 0,
 };
 
-fn fences_shut(place: usize, instruction: Instruction) -> Instruction {
+pub fn fences_shut(place: usize, instruction: Instruction) -> Instruction {
     if is_barrier(instruction) {
         stay_at(place)
     } else {
@@ -147,7 +144,7 @@ fn fences_shut(place: usize, instruction: Instruction) -> Instruction {
     }
 }
 
-fn never_back(place: usize, instruction: Instruction) -> Instruction {
+pub fn never_back(place: usize, instruction: Instruction) -> Instruction {
     match instruction {
         Instruction::Jump { target } if target < place => stay_at(place),
         Instruction::JumpIfEqual { target, .. } if target < place => GO_ON,
@@ -155,14 +152,14 @@ fn never_back(place: usize, instruction: Instruction) -> Instruction {
     }
 }
 
-fn jeq_never_jumps(_: usize, instruction: Instruction) -> Instruction {
+pub fn jeq_never_jumps(_: usize, instruction: Instruction) -> Instruction {
     match instruction {
         Instruction::JumpIfEqual { .. } => GO_ON,
         other => other,
     }
 }
 
-fn jeq_always_jumps(_: usize, instruction: Instruction) -> Instruction {
+pub fn jeq_always_jumps(_: usize, instruction: Instruction) -> Instruction {
     match instruction {
         Instruction::JumpIfEqual { target, .. } => Instruction::Jump { target },
         other => other,
@@ -172,21 +169,8 @@ fn jeq_always_jumps(_: usize, instruction: Instruction) -> Instruction {
 #[cfg(test)]
 mod tests {
     use super::*;
+    use crate::fence_cases::{jump, jump_if, ADD, EXCHANGE, FENCE, LOAD, STORE};
     use crate::listed::{file, with_byte, Program, P1, SC};
-
-    const ADD: [u8; 4] = [2, 0, 0, 1];
-    const STORE: [u8; 4] = [5, 0, 0, 1];
-    const LOAD: [u8; 4] = [3, 0, 0, 0];
-    const FENCE: [u8; 4] = [6, 0, 0, 0];
-    const EXCHANGE: [u8; 4] = [7, 0, 0, 0];
-
-    const fn jump(place: u8) -> [u8; 4] {
-        [9, 0, place, 0]
-    }
-
-    const fn jump_if(place: u8) -> [u8; 4] {
-        [8, 0, place, 0]
-    }
 
     fn job(programs: &[Program]) -> Vec<u8> {
         file(SC, &[0], programs, 0, &[[1, 0, 0, 0]])

@@ -28,7 +28,7 @@ pub fn shapes() -> Vec<Thread> {
         revived(),
         at_the_start(),
         dead_loads(),
-        behind_a_jeq_that_runs_never_pass(),
+        behind_a_jeq_that_runs_take_one_way(),
         beside_a_live_pair(),
         short(),
     ]
@@ -213,7 +213,7 @@ const fn jump_if_one(place: u8) -> [u8; 4] {
 }
 
 /// Registers are 0 at the start, and SET makes r0 1: runs take one way of the JEQ only, but moves take both.
-fn behind_a_jeq_that_runs_never_pass() -> Vec<Thread> {
+fn behind_a_jeq_that_runs_take_one_way() -> Vec<Thread> {
     vec![
         // Runs always jump over the store.
         opened(&[jump_if(3), STORE, LOAD], 1, 2),

@@ -24,8 +24,7 @@ pub fn fences(job: &[u8]) -> [u64; 4] {
 
 /// All open pairs that count; the set's order makes the least one the first.
 pub fn open_pairs(job: &Job) -> BTreeSet<OpenPair> {
-    let programs = job.programs.iter();
-    let live: Vec<BTreeSet<usize>> = programs.map(|program| live_places(program)).collect();
+    let live = live_in_threads(job);
     let mut pairs = open_run_or_not(job);
     pairs.retain(|pair| live[pair.thread].contains(&pair.store));
     pairs
@@ -54,6 +53,12 @@ pub fn open_run_or_not(job: &Job) -> BTreeSet<OpenPair> {
 /// The places that moves lead to from place 0, itself included; moves decide, not runs.
 pub fn live_places(program: &[Instruction]) -> BTreeSet<usize> {
     ends_of_walks(program, vec![0], Barriers::LetPass)
+}
+
+/// The live places of each thread.
+pub fn live_in_threads(job: &Job) -> Vec<BTreeSet<usize>> {
+    let programs = job.programs.iter();
+    programs.map(|program| live_places(program)).collect()
 }
 
 /// What FENCE and XCHG are to a walk that comes to them.
@@ -125,16 +130,8 @@ pub fn is_barrier(instruction: Instruction) -> bool {
 #[cfg(test)]
 mod tests {
     use super::*;
+    use crate::fence_cases::{jump, EXCHANGE, FENCE, LOAD, STORE};
     use crate::listed::{file, SC};
-
-    const STORE: [u8; 4] = [5, 0, 0, 1];
-    const LOAD: [u8; 4] = [3, 0, 0, 0];
-    const FENCE: [u8; 4] = [6, 0, 0, 0];
-    const EXCHANGE: [u8; 4] = [7, 0, 0, 0];
-
-    const fn jump(place: u8) -> [u8; 4] {
-        [9, 0, place, 0]
-    }
 
     fn job(program: &[[u8; 4]]) -> Job {
         let bytes = file(SC, &[0], &[program.to_vec()], 0, &[[1, 0, 0, 0]]);

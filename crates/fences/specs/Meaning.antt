@@ -1,4 +1,4 @@
--- What a fence check answers, for every input: 01, "Replay and fence check".
+-- What a fence check answers, for every input: 01, "Replay and fence check", and 02, request 4.
 use mathlib.Core.Path.{_≡_, refl, sym, _∙_, ap, subst}
 use mathlib.Core.List.{List, [], _∷_}
 use Prim.Native.Nat.{ℕ}

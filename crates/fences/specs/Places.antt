@@ -223,31 +223,31 @@ abbrev pub MetLoad : List Instr → ℕ → ℕ → Type 0
 MetLoad code m p = (role-at code p ≡ Loads) × Has m p
 
 -- the places to which any walks lead from place 0
-abbrev pub FromFirst : List Instr → ℕ → Type 0
-FromFirst code met = Met Anything code 0 met
+abbrev pub FromPlaceZero : List Instr → ℕ → Type 0
+FromPlaceZero code met = Met Anything code 0 met
 
 -- a store that counts: place 0, or one that was met from there
-abbrev pub LiveBy : (met p : ℕ) → Type 0
-LiveBy met p = (p ≡ 0) ⊎ Has met p
+abbrev pub LiveBy : (live p : ℕ) → Type 0
+LiveBy live p = (p ≡ 0) ⊎ Has live p
 
-pub tells-live : (met p : ℕ) → ¬ (p ≡ 0) → {b : Bool} → Tells b (Has met p) → Tells b (LiveBy met p)
-tells-live met p later = tells-same inr back
+pub tells-live : (live p : ℕ) → ¬ (p ≡ 0) → {b : Bool} → Tells b (Has live p) → Tells b (LiveBy live p)
+tells-live live p later = tells-same inr back
   where
-    back : LiveBy met p → Has met p
+    back : LiveBy live p → Has live p
     back (inl e) = absurd (later e)
     back (inr h) = h
 
-abbrev pub LiveStore : List Instr → (met p : ℕ) → Type 0
-LiveStore code met p = (role-at code p ≡ Stores) × LiveBy met p
+abbrev pub LiveStore : List Instr → (live p : ℕ) → Type 0
+LiveStore code live p = (role-at code p ≡ Stores) × LiveBy live p
 
-module _ (code : List Instr) (live : ℕ) (from-first : FromFirst code live) (s : ℕ) where
+module _ (code : List Instr) (live : ℕ) (from-zero : FromPlaceZero code live) (s : ℕ) where
   is-live : LiveBy live s → Live code s
   is-live (inl e) = inl e
-  is-live (inr h) = inr (from-first .sound s h)
+  is-live (inr h) = inr (from-zero .sound s h)
 
   live-is-met : s < length code → Live code s → LiveBy live s
   live-is-met inside (inl e) = inl e
-  live-is-met inside (inr w) = inr (from-first .complete s inside w)
+  live-is-met inside (inr w) = inr (from-zero .complete s inside w)
 
   -- where a store that counts stands, the loads that were met are the open ones
   pub open-of : LiveStore code live s → (m r : ℕ) → Met NoFence code s m →

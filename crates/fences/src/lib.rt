@@ -6,14 +6,13 @@ use rules::Control;
 use rules::Passing;
 use rules::Role;
 ghost use mathlib.Core.Path.{_≡_};
-ghost use mathlib.Core.Logic.{_⊎_};
 ghost use Prim.Native.Nat.{_<_};
 ghost use lib.ListN.{length};
 ghost use Rattle.rules.specs.File.{job-of};
 ghost use Rattle.rules.specs.Fences as rules;
 ghost use Rattle.job.specs.Laid.{IsAccepted};
 ghost use Rattle.fences.specs.Meaning.{words, FenceFor, FencePromise};
-ghost use Rattle.fences.specs.Places.{thread-of, Tells, Onwards, Joined, Grown, Met, LeastBelow, MetLoad, FromFirst, LiveBy, LiveStore, PairMeans};
+ghost use Rattle.fences.specs.Places.{thread-of, Tells, Onwards, Joined, Grown, Met, LeastBelow, MetLoad, FromPlaceZero, LiveBy, LiveStore, PairMeans};
 
 // What a fence check answers: the refusal's number and offset; no pair is open; the least open pair, its thread, store place and load place.
 pub enum Answer {
@@ -158,23 +157,23 @@ fn least_load(job: &[u8], l: Layout, t: u8, met: u64) -> u8
     n
 }
 
-// Whether place p can be reached by moves from place 0, where `met` has the places to which walks from there lead.
-fn is_live(met: u64, p: u8) -> bool
-    ensures { λ r. ⌜ Tells r (LiveBy met p) ⌝ }
+// Whether place p can be reached by moves from place 0, where `live` has the places to which walks from there lead.
+fn is_live(live: u64, p: u8) -> bool
+    ensures { λ r. ⌜ Tells r (LiveBy live p) ⌝ }
 {
     if p == 0 {
         return true;
     }
-    bits::has(met, p)
+    bits::has(live, p)
 }
 
 // Whether a store that counts stands at place p.
-fn is_live_store(job: &[u8], l: Layout, t: u8, met: u64, p: u8) -> bool
+fn is_live_store(job: &[u8], l: Layout, t: u8, live: u64, p: u8) -> bool
     requires { ⌜ IsAccepted (now job) l ⌝ }
-    ensures { λ r. ⌜ Tells r (LiveStore (thread-of (now (job .entry)) t) met p) ⌝ }
+    ensures { λ r. ⌜ Tells r (LiveStore (thread-of (now (job .entry)) t) live p) ⌝ }
 {
     if let Role::Stores = role_at(job, l, t, p) {
-        is_live(met, p)
+        is_live(live, p)
     } else {
         false
     }
@@ -183,7 +182,7 @@ fn is_live_store(job: &[u8], l: Layout, t: u8, met: u64, p: u8) -> bool
 // The least load that is open with the store place; the thread's length if there is none.
 fn open_load(job: &[u8], l: Layout, t: u8, live: u64, store: u8) -> u8
     requires { ⌜ IsAccepted (now job) l ⌝ }
-    requires { ⌜ FromFirst (thread-of (now job) t) live ⌝ }
+    requires { ⌜ FromPlaceZero (thread-of (now job) t) live ⌝ }
     ensures { λ r. ⌜
         LeastBelow (rules.OpenIn (thread-of (now (job .entry)) t) store) (length (thread-of (now (job .entry)) t)) r
         ⌝ }

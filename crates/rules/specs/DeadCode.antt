@@ -1,6 +1,6 @@
 -- Request 4 beside 01 alone: every program that was passed is passed still, and one that was OPEN by dead code alone is FENCED.
 use mathlib.Core.Path.{_≡_, refl, subst}
-use mathlib.Core.Logic.{inl}
+use mathlib.Core.Logic.{inl, _↔_}
 use mathlib.Core.List.{List, [], _∷_}
 use mathlib.Core.Option.{some}
 use Prim.Native.Nat.{ℕ}
@@ -23,14 +23,17 @@ use Rattle.rules.specs.declared.Instr.the-variants.{Load, Store, Fence, 
 abbrev pub PassedBefore : List (List Instr) → Type 0
 PassedBefore threads = (t s l : ℕ) (code : List Instr) → getElem? threads t ≡ some code → ¬ (Unfenced code s l)
 
+-- every program that was passed is passed still
 pub passed-still : (threads : List (List Instr)) → PassedBefore threads → ChecksTo threads fenced
 passed-still threads before t s l o = before t s l (o .code) (o .thread-is) (o .is-open .pair)
 
--- what is passed besides has no open pair but of stores in dead code
+-- what is passed is just this: each pair that 01 alone calls open has its store in dead code
 pub dead-code-alone : (threads : List (List Instr)) → ChecksTo threads fenced
-    → (t s l : ℕ) (code : List Instr) → getElem? threads t ≡ some code → Unfenced code s l → ¬ (Live code s)
-dead-code-alone threads passes t s l code is pair live =
-    passes t s l (record { code = code; thread-is = is; is-open = record { pair = pair; live = live } })
+    ↔ ((t s l : ℕ) (code : List Instr) → getElem? threads t ≡ some code → Unfenced code s l → ¬ (Live code s))
+dead-code-alone threads = (
+  λ passes t s l code is pair live. passes t s l (record { code = code; thread-is = is; is-open = record { pair = pair; live = live } }),
+  λ dead t s l o. dead t s l (o .code) (o .thread-is) (o .is-open .pair) (o .is-open .live),
+)
 
 -- The worked job: thread 0 of `parked-store`, and the store at place 1 behind its JMP.
 

@@ -23,7 +23,7 @@ use Rattle.reach.specs.Promise.{unknown-exactly, never}
 use Rattle.rules.specs.Kinds.{control-of, role-of}
 use Rattle.rules.specs.Step.{given}
 use Rattle.rules.specs.Tests.{both, of-both, given-some, given-none}
-use Rattle.rules.specs.Fences.{onward-at, successors, role-at, Move, Passes, Walk, Leads, Unfenced, Live, OpenIn, Open, Checked, fenced, open-at, ChecksTo}
+use Rattle.rules.specs.Fences.{onward, onward-at, successors, role-at, Move, Passes, Walk, Leads, Unfenced, Live, OpenIn, Open, Checked, fenced, open-at, ChecksTo}
 use Rattle.rules.specs.Onward.{few-onward}
 use Rattle.rules.specs.declared.Instr.{Instr}
 use Rattle.rules.specs.declared.Role.{Role}
@@ -45,6 +45,11 @@ one-fence-answer threads (open-at t s l) (open-at t′ s′ l′) h k = which (e
     which (inl e) = absurd (k .1 t s l (h .0) e)
     which (inr (inl e)) = cc
     which (inr (inr e)) = absurd (h .1 t′ s′ l′ (k .0) e)
+
+-- where an instruction goes on is a move
+pub move-by : (code : List Instr) (p q : ℕ) (i : Instr) → getElem? code p ≡ some i → q ∈ onward p (control-of i) → Move code p q
+unfolding successors onward-at
+move-by code p q i e h = rw e h
 
 -- Walks with one move more.
 

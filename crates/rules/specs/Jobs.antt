@@ -487,17 +487,6 @@ nine-stores =
     ∷ 0x00 ∷ 0x01 ∷ 0x01 ∷ 0x00 ∷ 0x00 ∷ 0x00
     ∷ []
 
--- a store and a load behind a JMP to the end
-unfoldable pub behind-a-jump : List ℕ
-behind-a-jump =
-    -- length 25, version 1, TSO, C 1, 1 thread, 1 variable, 0
-    0x00 ∷ 0x19 ∷ 0x01 ∷ 0x01 ∷ 0x01 ∷ 0x01 ∷ 0x01 ∷ 0x00
-    -- JMP to 3, x=1, load x
-    ∷ 0x03 ∷ 0x09 ∷ 0x00 ∷ 0x03 ∷ 0x00 ∷ 0x05 ∷ 0x00 ∷ 0x00 ∷ 0x01 ∷ 0x03 ∷ 0x00 ∷ 0x00 ∷ 0x00
-    -- any buffers, 1 clause
-    ∷ 0x00 ∷ 0x01 ∷ 0x01 ∷ 0x00 ∷ 0x00 ∷ 0x00
-    ∷ []
-
 -- instructions as the file has them
 unfoldable pub set-0 : List ℕ
 set-0 = 0x01 ∷ 0x00 ∷ 0x00 ∷ 0x00 ∷ []
@@ -540,6 +529,10 @@ alone is =
     ++ one-after-another is
     -- any buffers, 1 clause
     ++ (0x00 ∷ 0x01 ∷ 0x01 ∷ 0x00 ∷ 0x00 ∷ 0x00 ∷ [])
+
+-- a store and a load behind a JMP to the end
+unfoldable pub behind-a-jump : List ℕ
+behind-a-jump = alone (jmp-to 3 ∷ store-x ∷ load-x ∷ [])
 
 -- jobs/parked-store-sc: SC and flag 1; in thread 0 a JMP leads past a store and a load
 unfoldable pub parked-store : List ℕ

@@ -58,7 +58,7 @@ p1-links =
 -- slots, job, and what it pins
 unfoldable pub pins : List Case
 pins =
-    -- The verdict and refusal 7 go by these fourteen, and name them by their places.
+    -- The verdict, refusal 7 and `DeadCode` go by these fourteen, and name them by their places.
     -- SC and FENCED with flag 0: what a verdict goes by
     case 640 p9-sc (search-never 22)
     -- the same: the fence check

@@ -7,8 +7,8 @@ use native.Mathlib.Omega.{arith}
 use lib.ListN.{getElem?}
 use Rattle.rules.specs.State.{Pending}
 use Rattle.rules.specs.Kinds.{control-of, role-of}
-use Rattle.rules.specs.Fences.{onward-at, successors, role-at, Move, Passes, Leads}
-use Rattle.rules.specs.FenceCheck.{store-is-no-fence, role-there}
+use Rattle.rules.specs.Fences.{role-at, Move, Passes, Leads}
+use Rattle.rules.specs.FenceCheck.{move-by, store-is-no-fence, role-there}
 use Rattle.rules.specs.declared.Role.the-variants.{Stores}
 use Rattle.rules.specs.declared.Passing.the-variants.{NoFence}
 use Rattle.rules.specs.declared.Source.{Source}
@@ -71,8 +71,8 @@ module _ (code : List Instr) where
   -- Walks: the places between are those of quiet instructions and stores, and none is a FENCE or XCHG.
 
   move-on : (i : Instr) (m : List ℕ) (o : OwnPart) → getElem? code (o .place) ≡ some i → Move code (o .place) (after i m o .place)
-  unfolding successors onward-at after at-place
-  move-on i m o e = rw e (goes-onward (control-of i) o)
+  unfolding after at-place
+  move-on i m o e = move-by code (o .place) (after i m o .place) i e (goes-onward (control-of i) o)
 
   -- a store goes on to the next place
   store-on : (a : Source) (v : ℕ) (o : OwnPart) → getElem? code (o .place) ≡ some (Store a v) → Move code (o .place) (onwards o .place)

@@ -15,8 +15,8 @@ use Rattle.rules.specs.Job.{Job, start}
 use Rattle.rules.specs.Kinds.{control-of}
 use Rattle.rules.specs.Step.{stored, changed, place-after, executed, flushed, next}
 use Rattle.rules.specs.Machine.{machine}
-use Rattle.rules.specs.Fences.{onward-at, successors, Move, Live}
-use Rattle.rules.specs.FenceCheck.{live-on}
+use Rattle.rules.specs.Fences.{Live}
+use Rattle.rules.specs.FenceCheck.{move-by, live-on}
 use Rattle.rules.specs.Onward.{place-after-onward}
 use Rattle.rules.specs.declared.Model.{Model}
 use Rattle.rules.specs.declared.Model.the-variants.{Sc, Tso, Pso}
@@ -46,20 +46,14 @@ places-kept m t (Xchg r v) x = refl
 places-kept m t (Jeq r p k) x = refl
 places-kept m t (Jmp p) x = refl
 
--- a thread goes on by a move
-move-after : (code : List Instr) (t : ℕ) (i : Instr) (x : State) → getElem? code (place t x) ≡ some i
-    → Move code (place t x) (place-after t (control-of i) x)
-unfolding successors onward-at
-move-after code t i x e = rw e (place-after-onward t (control-of i) x)
-
 module _ (j : Job) where
   executed-live : (m : Model) (t : ℕ) (i : Instr) (x : State) → getElem? (code j t) (place t x) ≡ some i → AllLive j x
       → AllLive j (executed m t i x)
   unfolding executed with-place place
   executed-live m t i x e live =
-      rw (places-kept m t i x)
-      (at-set (λ u p. Live (code j u) p) (x .places) t (place-after t (control-of i) x) 0 live
-      (live-on (code j t) (place t x) (place-after t (control-of i) x) (live t) (move-after (code j t) t i x e)))
+      let p = place-after t (control-of i) x in
+      let move = move-by (code j t) (place t x) p i e (place-after-onward t (control-of i) x) in
+      rw (places-kept m t i x) (at-set (λ u q. Live (code j u) q) (x .places) t p 0 live (live-on (code j t) (place t x) p (live t) move))
 
   step-live : (s : ℕ) (x y : State) → next j s x ≡ some y → AllLive j x → AllLive j y
   unfolding flushed with-variable with-buffer place
