@@ -224,9 +224,9 @@ MetLoad code m p = (role-at code p ≡ Loads) × Has m p
 
 -- the places to which any walks lead from place 0
 abbrev pub FromPlaceZero : List Instr → ℕ → Type 0
-FromPlaceZero code met = Met Anything code 0 met
+FromPlaceZero code live = Met Anything code 0 live
 
--- a store that counts: place 0, or one that was met from there
+-- a place that can be reached: place 0, or one that was met from there
 abbrev pub LiveBy : (live p : ℕ) → Type 0
 LiveBy live p = (p ≡ 0) ⊎ Has live p
 
@@ -237,6 +237,7 @@ tells-live live p later = tells-same inr back
     back (inl e) = absurd (later e)
     back (inr h) = h
 
+-- a store that counts
 abbrev pub LiveStore : List Instr → (live p : ℕ) → Type 0
 LiveStore code live p = (role-at code p ≡ Stores) × LiveBy live p
 

@@ -307,12 +307,15 @@ store-test code s = same-role (role-at code s) Stores && leads Anything code 0 s
 unfoldable pub load-test : List Instr → (s l : ℕ) → Bool
 load-test code s l = same-role (role-at code l) Loads && leads NoFence code s l
 
--- the least open load of a store, the least open store of a thread, the least thread that has one
+-- the least open load of a store, that of a store if it counts, the least open store of a thread, the least thread that has one
 unfoldable pub open-loads : List Instr → (t s : ℕ) → Option Checked
 open-loads code t s = first-below (length code) λ l. given (load-test code s l) (open-at t s l)
 
+abbrev pub open-with : List Instr → (t s : ℕ) → Option Checked
+open-with code t s = andThen (given (store-test code s) s) (open-loads code t)
+
 unfoldable pub open-stores : ℕ → List Instr → Option Checked
-open-stores t code = first-below (length code) λ s. andThen (given (store-test code s) s) (open-loads code t)
+open-stores t code = first-below (length code) (open-with code t)
 
 unfoldable pub open-threads : List (List Instr) → Option Checked
 open-threads threads = first-below (length threads) λ t. andThen (getElem? threads t) (open-stores t)
@@ -415,10 +418,7 @@ module _ (code : List Instr) (t : ℕ) where
   no-loads s e l o =
       no-load code s l t (first-none (λ l. given (load-test code s l) (open-at t s l)) (length code) e l (load-inside o)) o
 
-  abbrev pairs-of : ℕ → Option Checked
-  pairs-of s = andThen (given (store-test code s) s) (open-loads code t)
-
-  no-store : (s : ℕ) → pairs-of s ≡ none → (l : ℕ) → ¬ (OpenIn code s l)
+  no-store : (s : ℕ) → open-with code t s ≡ none → (l : ℕ) → ¬ (OpenIn code s l)
   no-store s e l o = which (store-test code s) (store-tests code s (o .pair .store) (o .live)) e
     where
       which : (b : Bool) → T b → andThen (given b s) (open-loads code t) ≡ none → ⊥
@@ -427,7 +427,7 @@ module _ (code : List Instr) (t : ℕ) where
 
   no-stores : open-stores t code ≡ none → (s l : ℕ) → ¬ (OpenIn code s l)
   unfolding open-stores
-  no-stores e s l o = no-store s (first-none pairs-of (length code) e s (store-inside (o .pair))) l o
+  no-stores e s l o = no-store s (first-none (open-with code t) (length code) e s (store-inside (o .pair))) l o
 
 module _ (threads : List (List Instr)) where
   abbrev in-thread : ℕ → Option Checked
@@ -459,7 +459,7 @@ module _ (threads : List (List Instr)) where
       which (some a) e =
           let r = first-some in-thread (length threads) a e in
           let c = andThen-some (getElem? threads (r .0)) (open-stores (r .0)) a (r .2) in
-          let p = first-some (pairs-of (c .0) (r .0)) (length (c .0)) a (c .2) in
+          let p = first-some (open-with (c .0) (r .0)) (length (c .0)) a (c .2) in
           let i = andThen-some (given (store-test (c .0) (p .0)) (p .0)) (open-loads (c .0) (r .0)) a (p .2) in
           let k = given-some (store-test (c .0) (p .0)) (p .0) (i .0) (i .1) in
           let st = test-store (c .0) (p .0) (k .0) in

@@ -47,6 +47,7 @@ abbrev pub Walk : Passing → List Instr → ℕ → List ℕ → ℕ → Type 0
 Walk by code p [] q = Move code p q
 Walk by code p (m ∷ between) q = Move code p m × Passes by (role-at code m) × Walk by code m between q
 
+-- there is such a walk
 abbrev pub Leads : Passing → List Instr → ℕ → ℕ → Type 0
 Leads by code p q = (between : List ℕ) × Walk by code p between q
 

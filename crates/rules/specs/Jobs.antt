@@ -1,7 +1,7 @@
 -- The jobs of 01's bench list, byte for byte, and some beyond it.
 use mathlib.Core.List.{List, [], _∷_, _++_}
 use Prim.Native.Nat.{ℕ, zero, suc, _+_, _*_}
-use lib.ListN.{length, set, take}
+use lib.ListN.{length, set, take, drop}
 
 -- P1, store buffering: x=1, load y against y=1, load x; both loads 0 at the end
 unfoldable pub p1 : List ℕ
@@ -533,6 +533,18 @@ alone is =
 -- a store and a load behind a JMP to the end
 unfoldable pub behind-a-jump : List ℕ
 behind-a-jump = alone (jmp-to 3 ∷ store-x ∷ load-x ∷ [])
+
+-- a thread of 64 in which the way from place 0 to the store leads to the last place, and from there down over every other
+unfoldable pub down-to-a-store : List ℕ
+down-to-a-store =
+    -- length 269, version 1, SC, C 0, 1 thread, 1 variable, 0
+    (0x01 ∷ 0x0D ∷ 0x01 ∷ 0x00 ∷ 0x00 ∷ 0x01 ∷ 0x01 ∷ 0x00 ∷ [])
+    -- JMP to 63; x=1, load x at places 1 and 2, JMP to 1, JMP to 2; from place 5 on each JMP leads one down
+    ++ (0x40 ∷ [])
+    ++ one-after-another (jmp-to 63 ∷ store-x ∷ load-x ∷ jmp-to 1 ∷ jmp-to 2 ∷ [])
+    ++ drop 16 (jumps-down 63)
+    -- any buffers, 1 clause
+    ++ (0x00 ∷ 0x01 ∷ 0x01 ∷ 0x00 ∷ 0x00 ∷ 0x00 ∷ [])
 
 -- jobs/parked-store-sc: SC and flag 1; in thread 0 a JMP leads past a store and a load
 unfoldable pub parked-store : List ℕ

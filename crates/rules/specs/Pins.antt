@@ -12,7 +12,7 @@ use Rattle.rules.specs.Fences.{fenced, open-at}
 use Rattle.rules.specs.Jobs.{p1, p2, p3, p4, p5, p6, p9, p10, p12, p9-sc, p9-sc-drained, p2-drained, no-instruction, waits-apart, three-to-one, own-newest, fence-waits, exchange, jump-over, either-order, oldest-first, stored-register}
 use Rattle.rules.specs.Jobs.{exchange-between, ends-and-moves, back-around, past-a-load, next-of-two, over-a-fence}
 use Rattle.rules.specs.Jobs.{in-memory, other-registers, widest, sixty-four, sixty-five, next-door, fifty-one, down-the-stairs, fullest, too-long, cut, cut-unknown, left-over}
-use Rattle.rules.specs.Jobs.{two-lengths, lengths-turned, nine-stores, behind-a-jump, parked-store, two-stores-open, two-threads-open, last-thread-open, last-of-all, third-drains, highest-values, round-to-zero}
+use Rattle.rules.specs.Jobs.{two-lengths, lengths-turned, nine-stores, behind-a-jump, down-to-a-store, parked-store, two-stores-open, two-threads-open, last-thread-open, last-of-all, third-drains, highest-values, round-to-zero}
 use Rattle.rules.specs.Jobs.{set-0, add-0, load-x, store-r, store-x, fence, xchg-x, jeq-to, jmp-to, alone}
 use Rattle.rules.specs.Claims.{search-reaches, search-never, search-unknown, slots-follow, links-are, fences-say, replay-says, slot-after, enabled-after, refuses, Case, case}
 
@@ -292,8 +292,8 @@ pins =
     ∷ case 640 down-the-stairs (fences-say fenced)
     -- a JEQ at place 0 to it, and a walk from it over all places but 0: up to the last, then down to a load at place 1
     ∷ case 640 (set (set (set down-the-stairs 9 0x08) 11 0x3E) 13 0x03) (fences-say (open-at 0 62 1))
-    -- the other way: a JMP at place 0 to the last, and from there down to a store at place 1
-    ∷ case 640 (set (set (set (set (set (set down-the-stairs 9 0x09) 11 0x3F) 13 0x05) 17 0x03) 19 0x00) 23 0x01) (fences-say (open-at 0 1 2))
+    -- the other way: up to the last place, then down over all others to the store
+    ∷ case 640 down-to-a-store (fences-say (open-at 0 1 2))
     -- a JMP over place 1, up over all others, and from the last back to a store there
     ∷ case 640 (set (set (set (set (set (set sixty-four 9 0x09) 11 0x02) 13 0x05) 17 0x03) 261 0x09) 263 0x01) (fences-say (open-at 0 1 2))
     -- a JMP over the last two places
