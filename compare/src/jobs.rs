@@ -4,7 +4,7 @@ use crate::walk::walk;
 use second::job::MOST_INSTRUCTIONS;
 use second::listed::{
     at_the_limit, bench_list, file, settled, with_byte, Memory, Program, AT_THE_START,
-    FURTHEST_PLACE, P1, SC,
+    FURTHEST_PLACE, P1, PSO, SC, TSO,
 };
 use second::long_threads::MOST_BEFORE;
 use second::machine::State;
@@ -39,7 +39,8 @@ pub fn job(random: &mut Random, number: u64) -> Vec<u8> {
             };
             damaged(random, job)
         }
-        37..=47 => sound_job(random),
+        37..=44 => sound_job(random),
+        45..=47 => deep_buffer(random),
         48..=54 => parked(random),
         55..=60 => sequencer(random),
         61..=72 => {
@@ -339,6 +340,46 @@ fn within_its_end(mut program: Program) -> Program {
         }
     }
     program
+}
+
+// ---- deep buffers: a pending store among others is all that two states differ in ----
+
+/// A thread that makes some stores, one of which hangs on whether another thread has raised a flag by then; both forget it.
+fn deep_buffer(random: &mut Random) -> Vec<u8> {
+    const FLAG: u8 = 0;
+    let variables = random.between(2, 8);
+    let before = random.below(8);
+    let behind = random.below(8 - before);
+    let capacity = random.between(before + 1 + behind, 8) as u8;
+    let mut storing = plain_stores(random, before, variables);
+    let at = storing.len() as u8;
+    storing.push([3, 0, FLAG, 0]);
+    let [variable, other] = [(); 2].map(|()| random.between(1, variables - 1) as u8);
+    if random.percent(50) {
+        storing.push([4, 0, variable, 0]);
+    } else {
+        storing.extend([[8, 0, at + 4, 1], [5, 0, variable, 0], [9, 0, at + 5, 0]]);
+        storing.push([5, 0, other, 0]);
+    }
+    storing.push([1, 0, 0, 0]);
+    storing.extend(plain_stores(random, behind, variables));
+    // The exchange gives the register its 0 back.
+    let raising = vec![[1, 0, 0, 1], [7, 0, FLAG, 0]];
+    let mut programs = vec![Program::new(); 4];
+    let thread = random.below(4);
+    programs[(thread + random.between(1, 3)) % 4] = raising;
+    programs[thread] = storing;
+    let memory = [random.pick(&[TSO, PSO]), capacity];
+    let job = with_any_goal(memory, &vec![0; variables], &programs);
+    with_far_goal(random, job, FAR)
+}
+
+fn plain_stores(random: &mut Random, count: usize, variables: usize) -> Program {
+    let store = |random: &mut Random| {
+        let variable = random.between(1, variables - 1) as u8;
+        [5, 0, variable, random.below(2) as u8]
+    };
+    (0..count).map(|_| store(random)).collect()
 }
 
 /// Four threads of the most instructions, which is all that a file holds.

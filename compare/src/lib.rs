@@ -7,6 +7,8 @@ pub mod jobs;
 pub mod lent;
 pub mod library;
 pub mod one_job;
+pub mod pieces;
+pub mod ring;
 pub mod rooms;
 pub mod run;
 pub mod schedules;

@@ -2,19 +2,30 @@
 
 use crate::call::{Call, Checker, Kind};
 
-// Each slice is a pointer and then a length; the answer is four words.
+/// Declares a search of an archive; each slice is a pointer and then a length, the answer is four words.
+macro_rules! c_search {
+    ($name:ident) => {
+        extern "C" {
+            fn $name(
+                job: *const u8,
+                job_len: usize,
+                table: *mut u8,
+                table_len: usize,
+                links: *mut u32,
+                links_len: usize,
+                schedule: *mut u8,
+                schedule_len: usize,
+                answer: *mut u64,
+            );
+        }
+    };
+}
+
+c_search!(handshake_search);
+#[cfg(feature = "before")]
+c_search!(before_search);
+
 extern "C" {
-    fn handshake_search(
-        job: *const u8,
-        job_len: usize,
-        table: *mut u8,
-        table_len: usize,
-        links: *mut u32,
-        links_len: usize,
-        schedule: *mut u8,
-        schedule_len: usize,
-        answer: *mut u64,
-    );
     fn handshake_replay(
         job: *const u8,
         job_len: usize,
@@ -25,24 +36,42 @@ extern "C" {
     fn handshake_fences(job: *const u8, job_len: usize, answer: *mut u64);
 }
 
+/// A search over slices by one that was declared so.
+macro_rules! search_by {
+    ($name:ident, $job:ident, $table:ident, $links:ident, $schedule:ident) => {{
+        let mut answer = [u64::MAX; 4];
+        // SAFETY: every pointer comes with the length of its slice, and the answer has four words.
+        unsafe {
+            $name(
+                $job.as_ptr(),
+                $job.len(),
+                $table.as_mut_ptr(),
+                $table.len(),
+                $links.as_mut_ptr(),
+                $links.len(),
+                $schedule.as_mut_ptr(),
+                $schedule.len(),
+                answer.as_mut_ptr(),
+            );
+        }
+        answer
+    }};
+}
+
 /// Answers 0,number,offset,0 | 1,d,states,0 | 2,states,0,0 | 3,N,0,0 and fills the lent buffers.
 pub fn search(job: &[u8], table: &mut [u8], links: &mut [u32], schedule: &mut [u8]) -> [u64; 4] {
-    let mut answer = [u64::MAX; 4];
-    // SAFETY: every pointer comes with the length of its slice, and the answer has four words.
-    unsafe {
-        handshake_search(
-            job.as_ptr(),
-            job.len(),
-            table.as_mut_ptr(),
-            table.len(),
-            links.as_mut_ptr(),
-            links.len(),
-            schedule.as_mut_ptr(),
-            schedule.len(),
-            answer.as_mut_ptr(),
-        );
-    }
-    answer
+    search_by!(handshake_search, job, table, links, schedule)
+}
+
+/// The same as an earlier commit's archive has it.
+#[cfg(feature = "before")]
+pub fn search_before(
+    job: &[u8],
+    table: &mut [u8],
+    links: &mut [u32],
+    schedule: &mut [u8],
+) -> [u64; 4] {
+    search_by!(before_search, job, table, links, schedule)
 }
 
 /// Answers 0,number,offset,0 | 1,0,0,0 reaches | 2,0,0,0 falls short | 3,i,0,0 stuck at i.

@@ -6,6 +6,7 @@ use crate::hold::hold;
 use crate::rooms::Room;
 use crate::tally::Tally;
 use crate::{jobs, rooms, schedules};
+use second::machine::SLOT_BYTES;
 use second::random::Random;
 use second::{decode, Job};
 
@@ -88,25 +89,23 @@ impl Comparison<'_> {
         };
         self.tally.room(&roomy);
         let first = self.search(job, &roomy);
-        let mut found = None;
-        let more_rooms = match first.words() {
+        let (found, states) = match first.words() {
             [1, distance, states, _] => {
                 self.tally.distance(distance);
-                found = Some(&first.schedule.part()[..distance as usize]);
-                let ends = level_ends(&first.links.part()[..states as usize]);
-                rooms::about(&mut self.random, &ends)
+                let schedule = &first.schedule.part()[..distance as usize];
+                (Some(schedule), states as usize)
             }
-            [2, states, ..] => {
-                let ends = level_ends(&first.links.part()[..states as usize]);
-                rooms::about(&mut self.random, &ends)
-            }
-            [3, slots, ..] => {
-                let ends = level_ends(&first.links.part()[..slots as usize]);
-                rooms::within(&mut self.random, &ends)
-            }
+            [2 | 3, states, ..] => (None, states as usize),
             answer => {
                 panic!("the second checker's search of an accepted job answered {answer:?}")
             }
+        };
+        self.tally
+            .pieces(&first.table.part()[..states * SLOT_BYTES]);
+        let ends = level_ends(&first.links.part()[..states]);
+        let more_rooms = match first.words() {
+            [3, ..] => rooms::within(&mut self.random, &ends),
+            _ => rooms::about(&mut self.random, &ends),
         };
         for room in more_rooms {
             self.tally.room(&room);

@@ -2,6 +2,7 @@
 
 use crate::blank::Blank;
 use crate::call::{Call, Kind};
+use crate::pieces::{decide_alone, PIECES};
 use crate::rooms::{self, Room};
 use crate::schedules::LONG;
 use second::job::{Instruction, Model};
@@ -12,7 +13,7 @@ use std::collections::BTreeMap;
 
 type Class = (&'static str, &'static str);
 
-const NUMBERS: [&str; 9] = ["0", "1", "2", "3", "4", "5", "6", "7", "8"];
+const NUMBERS: [&str; PIECES] = ["0", "1", "2", "3", "4", "5", "6", "7", "8", "9", "10", "11"];
 const JOBS: &str = "jobs";
 const REFUSED: &str = "jobs refused by";
 const ROOM: &str = "rooms";
@@ -33,14 +34,15 @@ const LONG_THREAD_CHECKS: &str = "long threads, checks";
 const LONG_THREAD_RUNS: &str = "long threads, runs";
 const DEAD_CODE: &str = "dead code";
 const DEAD_CODE_CHECKS: &str = "dead code, checks";
+const PIECE_ALONE: &str = "one piece apart";
 
 /// Every class that is named in the summary, in its order.
-const SECTIONS: [(&str, &[&str]); 23] = [
+const SECTIONS: [(&str, &[&str]); 24] = [
     (JOBS, &["accepted", "refused"]),
     (REFUSED, &["1", "2", "3", "4", "5", "6"]),
     (THREADS, &["1", "2", "3", "4"]),
     (VARIABLES, &["1", "2", "3", "4", "5", "6", "7", "8"]),
-    (CAPACITY, &NUMBERS),
+    (CAPACITY, &["0", "1", "2", "3", "4", "5", "6", "7", "8"]),
     (
         PROGRAMS,
         &[
@@ -93,6 +95,7 @@ const SECTIONS: [(&str, &[&str]); 23] = [
     (MODELS[0], &["reachable", "unreachable", "unknown"]),
     (MODELS[1], &["reachable", "unreachable", "unknown"]),
     (MODELS[2], &["reachable", "unreachable", "unknown"]),
+    (PIECE_ALONE, &NUMBERS),
     (
         DISTANCE,
         &["0", "1 to 4", "5 to 9", "10 to 19", "20 or more"],
@@ -245,6 +248,14 @@ impl Tally {
         }
     }
 
+    /// The slots that a job's first search counted: which pieces alone tell two of their states apart.
+    pub fn pieces(&mut self, slots: &[u8]) {
+        let decide = decide_alone(slots);
+        for (class, _) in NUMBERS.iter().zip(decide).filter(|(_, alone)| *alone) {
+            self.count(PIECE_ALONE, class);
+        }
+    }
+
     /// The least distance of a goal, once for each job.
     pub fn distance(&mut self, distance: u64) {
         self.greatest_distance = self.greatest_distance.max(distance);
@@ -347,7 +358,8 @@ impl Tally {
                 .iter()
                 .map(|&class| match section {
                     // These classes are numbers themselves.
-                    REFUSED | REFUSED_SEARCHES | THREADS | VARIABLES | CAPACITY | DISTANCE => {
+                    REFUSED | REFUSED_SEARCHES | THREADS | VARIABLES | CAPACITY | DISTANCE
+                    | PIECE_ALONE => {
                         format!("{class}: {}", self.counted(section, class))
                     }
                     _ => format!("{class} {}", self.counted(section, class)),

@@ -1,9 +1,10 @@
--- Worked values of N, of refusal 7 and of the words: 01, "Search" and "Refusal numbers and their order".
+-- Worked values of N, of refusal 7 and of the words: 01, "Search" and "Refusal numbers and their order"; the slot in pieces: request 3.
 use mathlib.Core.Path.{_≡_, refl, subst}
 use mathlib.Core.List.{List, [], _∷_}
-use Prim.Native.Nat.{ℕ}
+use Prim.Native.Nat.{ℕ, _%_}
 use lib.ListN.{length, set}
 use Rattle.reach.specs.Lists.{All}
+use Rattle.span.specs.Pieces.{piece-size}
 use Rattle.rules.specs.Limits.{slot-size}
 use Rattle.rules.specs.Slot.{slot-bytes}
 use Rattle.rules.specs.Machine.{machine}
@@ -54,6 +55,10 @@ pub rooms-are : All HasSlots rooms
 unfolding rooms slots-lent
 rooms-are =
     (λ m t l s. rw (t, l, s) refl, (λ m t l s. rw (t, l, s) refl, (λ m t l s. rw (t, l, s) refl, (λ m t l s. rw (t, l, s) refl, (λ m t l s. rw (t, l, s) refl, (λ m t l s. rw (t, l, s) refl, (λ m t l s. rw (t, l, s) refl, (λ m t l s. rw (t, l, s) refl, (λ m t l s. rw (t, l, s) refl, tt)))))))))
+
+-- a slot is whole pieces, so that no byte of it is compared by itself
+pub slot-in-pieces : slot-size % piece-size ≡ 0
+slot-in-pieces = refl
 
 -- what a search must answer where no slot is lent: its number and offset, and nothing is written
 abbrev pub RefusedWithNoSlot : List ℕ → (number offset : ℕ) → Type 0

@@ -23,18 +23,18 @@ pub fn smaller(a: usize, b: usize) -> usize
     if a < b { a } else { b }
 }
 
-// Whether one of the counted slots holds the bytes.
+// Whether one of the counted slots holds the bytes: from the newest back, since a state that is met again was most often met not long ago.
 fn known(table: &[u8], count: usize, bytes: &[u8]) -> bool
     requires { ⌜ length (now bytes) * count ≤ length (now table) ⌝ }
     ensures { λ r. ⌜ Looked (length (now (bytes .entry))) (now (table .entry)) count (now (bytes .entry)) r ⌝ }
 {
     let size = bytes.len();
-    let mut i = 0;
-    while i < count {
+    let mut i = count;
+    while 0 < i {
+        i -= 1;
         if span::same_bytes(table, size * i, bytes) {
             return true;
         }
-        i += 1;
     }
     false
 }

@@ -1,13 +1,14 @@
 -- Runs of bytes one after another: laid over a table, read from it, and compared with it.
 use mathlib.Core.Path.{_≡_, refl, sym, ap, _∙_}
+use mathlib.Core.Bool.{Bool, true≢false, false}
 use mathlib.Core.List.{List, [], _∷_, _++_, append-assoc, append-nil}
 use Prim.Native.Nat.{ℕ, suc, _+_, _-_, _<_, _≤_}
 use native.Mathlib.Nat.{zero-add, add-assoc}
 use native.Mathlib.Numerals.{add-one}
 use native.Mathlib.Omega.{arith}
 use lib.ListN.{length, getD, set, take, drop, length-append, length-take, length-drop}
-use lib.Seq.{take-at, drop-at, take-add, take-suc, drop-drop, set-split, append-snoc, drop-cons, drop-length, paste-zero, getD-take, getD-drop}
-use Rattle.span.specs.Span.{bytes-at, laid}
+use lib.Seq.{take-at, drop-at, take-add, take-take, drop-drop, set-split, append-snoc, drop-cons, drop-length, take-length, paste-zero}
+use Rattle.span.specs.Span.{bytes-at, laid, Compared}
 
 -- Bytes laid over a table.
 
@@ -76,18 +77,45 @@ filled out table at h =
     let count : at + length out - at ≡ length out = omega arith in
     rw count (laid-all out (bytes-at table at (length out)) (sym (bytes-at-number table at (length out) h)))
 
--- Bytes compared with a table, of which the first k were found.
-module _ (table : List ℕ) (at : ℕ) (bytes : List ℕ) (k : ℕ) (inside : k < length bytes) (room : at + length bytes ≤ length table) where
-  -- byte k of the run
-  there : getD (bytes-at table at (length bytes)) k 0 ≡ getD table (at + k) 0
-  there = getD-take (length bytes) (drop at table) k 0 inside ∙ getD-drop at table k 0
+-- a run of a run
+inner : (table : List ℕ) (at size k n : ℕ) → k + n ≤ size → at + size ≤ length table
+    → bytes-at (bytes-at table at size) k n ≡ bytes-at table (at + k) n
+inner table at size k n inside room =
+    let rest = size - k in
+    let count : size ≡ k + rest = omega arith in
+    let front : length (bytes-at table at k) ≡ k = bytes-at-number table at k (omega arith) in
+    let behind : drop k (bytes-at table at (k + rest)) ≡ bytes-at table (at + k) rest =
+    ap (drop k) (bytes-at-add table at k rest) ∙ drop-at (bytes-at table at k) (bytes-at table (at + k) rest) k front in
+    rw (count, behind) (take-take n rest (drop (at + k) table) (omega arith))
 
+-- one byte is equal where its value is, and nowhere else
+module _ (s t : List ℕ) (at from : ℕ) (inside : at < length s) (within : from < length t) where
+  pub same-byte : getD s at 0 ≡ getD t from 0 → bytes-at s at 1 ≡ bytes-at t from 1
+  same-byte e = rw (one-more s at 0 inside, one-more t from 0 within, e)
+
+  pub other-byte : ¬ (getD s at 0 ≡ getD t from 0) → ¬ (bytes-at s at 1 ≡ bytes-at t from 1)
+  other-byte differs e = differs (ap (λ l. getD l 0 0) (rw (one-more s at 0 inside, one-more t from 0 within) at e))
+
+-- Bytes compared with a table, of which the first k were found: the n behind them.
+module _ (table : List ℕ) (at : ℕ) (bytes : List ℕ) (k n : ℕ) (inside : k + n ≤ length bytes) (room : at + length bytes ≤ length table) where
   pub found-more :
-      bytes-at table at k ≡ take k bytes → getD table (at + k) 0 ≡ getD bytes k 0 → bytes-at table at (suc k) ≡ take (suc k) bytes
-  found-more so-far same =
-      let more = take-suc (drop at table) k 0 (omega (arith, length-drop at table)) in
-      rw (more, so-far, getD-drop at table k 0, same) (sym (take-suc bytes k 0 inside))
+      bytes-at table at k ≡ take k bytes → bytes-at table (at + k) n ≡ bytes-at bytes k n → bytes-at table at (k + n) ≡ take (k + n) bytes
+  found-more so-far same = bytes-at-add table at k n ∙ rw (so-far, same) (sym (take-add k n bytes))
 
-  -- where one byte differs, the runs do
-  pub found-other : ¬ (getD table (at + k) 0 ≡ getD bytes k 0) → ¬ (bytes-at table at (length bytes) ≡ bytes)
-  found-other differs same = differs (sym there ∙ ap (λ l. getD l k 0) same)
+  -- runs that are equal are equal there too
+  equal-there : bytes-at table at (length bytes) ≡ bytes → bytes-at table (at + k) n ≡ bytes-at bytes k n
+  equal-there same = sym (inner table at (length bytes) k n inside room) ∙ ap (λ l. bytes-at l k n) same
+
+  -- where they differ, the runs do
+  pub told-apart : ¬ (bytes-at table (at + k) n ≡ bytes-at bytes k n) → Compared (bytes-at table at (length bytes)) bytes false
+  told-apart differs = record { only = λ e. absurd (true≢false (sym e)); each = λ e. absurd (differs (equal-there e)) }
+
+  -- where they are all that is left, they decide
+  pub left-decides :
+      {same : Bool} → bytes-at table at k ≡ take k bytes → k + n ≡ length bytes →
+      Compared (bytes-at table (at + k) n) (bytes-at bytes k n) same → Compared (bytes-at table at (length bytes)) bytes same
+  left-decides so-far all left =
+      record {
+        only = λ e. (rw all at (found-more so-far (left .only e))) ∙ take-length bytes;
+        each = λ e. left .each (equal-there e);
+      }

@@ -1,4 +1,6 @@
 // A run of bytes at a place of a table: laid over it, read from it, compared with it.
+mod pieces;
+
 ghost use mathlib.Core.Path.{_≡_};
 ghost use Prim.Native.Nat.{_+_, _≤_};
 ghost use lib.ListN.{length};
@@ -25,17 +27,18 @@ pub fn read_bytes(out: &mut [u8], table: &[u8], at: usize)
     put_bytes(out, 0, &table[at..end]);
 }
 
-// Whether the table holds the bytes from `at` on.
+// Whether the table holds the bytes from `at` on: piece by piece from the front (docs/COMPARISON.md says why), then what is less than a piece.
 pub fn same_bytes(table: &[u8], at: usize, bytes: &[u8]) -> bool
     requires { ⌜ at + length (now bytes) ≤ length (now table) ⌝ }
     ensures { λ r. ⌜ Compared (bytes-at (now (table .entry)) at (length (now (bytes .entry)))) (now (bytes .entry)) r ⌝ }
 {
+    let size = bytes.len();
     let mut found: usize = 0;
-    while found < bytes.len() {
-        if table[at + found] != bytes[found] {
+    while pieces::PIECE_SIZE <= size - found {
+        if pieces::piece(table, at + found) != pieces::piece(bytes, found) {
             return false;
         }
-        found += 1;
+        found += pieces::PIECE_SIZE;
     }
-    true
+    pieces::same_one_by_one(table, at + found, &bytes[found..size])
 }
