@@ -39,7 +39,18 @@ void handshake_search(const uint8_t *job, size_t job_length, uint8_t *table, siz
  * answer: 0, number, offset, 0: refused
  *         1, 0, 0, 0:           reaches a goal
  *         2, 0, 0, 0:           falls short
- *         3, i, 0, 0:           stuck at step i, counted from 0 */
+ *         3, i, reason, 0:      stuck at step i, counted from 0: it can't be taken there
+ * The reason is the first of these that applies, in this order:
+ *   1  no such step: the number is above 35, or its thread is not below T, or its variable not below V. Correct the
+ *      number, or the job's T or V.
+ *   2  thread ended: an execute step of a thread that is at its end. Leave it out; what is still pending can be flushed.
+ *   3  buffer full: a store, while C stores of its thread are pending (TSO, PSO). Flush one of them first, under TSO the oldest.
+ *   4  buffer not empty: FENCE or XCHG, while a store of its thread is pending (TSO, PSO). Flush all of them first,
+ *      under TSO oldest first.
+ *   5  nothing to flush: no store of that thread to that variable is pending; under SC there never is. Either it was not
+ *      executed yet, and then execute it first, or it was flushed already, and then leave the flush out.
+ *   6  not the oldest: there is such a store, but the oldest of the thread is to another variable (TSO). Flush the
+ *      older ones first, oldest first. */
 void handshake_replay(const uint8_t *job, size_t job_length, const uint8_t *schedule, size_t schedule_length, uint64_t answer[4]);
 
 /* Looks in each thread for a store and a later load with no FENCE or XCHG between. A store counts only if it stands at place 0 of its

@@ -39,11 +39,12 @@ pub fn job(random: &mut Random, number: u64) -> Vec<u8> {
             };
             damaged(random, job)
         }
-        37..=44 => sound_job(random),
-        45..=47 => deep_buffer(random),
-        48..=54 => parked(random),
-        55..=60 => sequencer(random),
-        61..=72 => {
+        37..=42 => sound_job(random),
+        43..=46 => crowded(random),
+        47..=49 => deep_buffer(random),
+        50..=56 => parked(random),
+        57..=62 => sequencer(random),
+        63..=72 => {
             let job = sound_job(random);
             with_far_goal(random, job, FAR)
         }
@@ -380,6 +381,49 @@ fn plain_stores(random: &mut Random, count: usize, variables: usize) -> Program 
         [5, 0, variable, random.below(2) as u8]
     };
     (0..count).map(|_| store(random)).collect()
+}
+
+// ---- crowded buffers: a store, a fence or the end behind about as many stores as a buffer holds ----
+
+/// One thread or two that fill their buffers of any capacity, beside short ones.
+fn crowded(random: &mut Random) -> Vec<u8> {
+    let variables = random.pick(&[1, 2, 3, 4, 5, 6, 7, 8, 8]);
+    // Small buffers are soon full in other jobs, too.
+    let capacity = random.pick(&[1, 2, 3, 4, 4, 5, 5, 6, 6, 7, 7, 8, 8]);
+    let threads = random.between(1, 4);
+    let mut programs: Vec<Program> = (0..threads)
+        .map(|_| handshake_program(random, variables, 3))
+        .collect();
+    for _ in 0..random.between(1, 2) {
+        programs[random.below(threads)] = crowding_program(random, capacity, variables);
+    }
+    let memory = [random.pick(&[TSO, PSO]), capacity as u8];
+    let job = with_any_goal(memory, &vec![0; variables], &programs);
+    with_far_goal(random, job, FAR)
+}
+
+/// One store less than the buffer holds, just as many, or one more; behind them something that waits, or doesn't.
+fn crowding_program(random: &mut Random, capacity: usize, variables: usize) -> Program {
+    let count = random.pick(&[capacity - 1, capacity, capacity + 1, capacity + 1]);
+    let variable = |random: &mut Random| random.below(variables) as u8;
+    let mut program: Program = (0..count)
+        .map(|_| {
+            let variable = variable(random);
+            random.pick(&[
+                [5, 0, variable, 1],
+                [5, 0, variable, 2],
+                [4, 0, variable, 0],
+            ])
+        })
+        .collect();
+    match random.below(6) {
+        0 => program.push([6, 0, 0, 0]),
+        1 => program.push([7, 0, variable(random), 0]),
+        2 => program.push([3, 0, variable(random), 0]),
+        3 | 4 => program.push([9, 0, 0, 0]),
+        _ => {}
+    }
+    program
 }
 
 /// Four threads of the most instructions, which is all that a file holds.

@@ -74,7 +74,7 @@ pub fn search_before(
     search_by!(before_search, job, table, links, schedule)
 }
 
-/// Answers 0,number,offset,0 | 1,0,0,0 reaches | 2,0,0,0 falls short | 3,i,0,0 stuck at i.
+/// Answers 0,number,offset,0 | 1,0,0,0 reaches | 2,0,0,0 falls short | 3,i,reason,0 stuck at i, by a reason from 1 to 6.
 pub fn replay(job: &[u8], schedule: &[u8]) -> [u64; 4] {
     let mut answer = [u64::MAX; 4];
     // SAFETY: as above.

@@ -111,7 +111,7 @@ impl Comparison<'_> {
             self.tally.room(&room);
             self.search(job, &room);
         }
-        for schedule in schedules::for_accepted(&mut self.random, decoded, found) {
+        for schedule in schedules::for_accepted(&mut self.random, job, decoded, found) {
             self.replay(job, &schedule);
         }
     }

@@ -7,8 +7,8 @@ use crate::rooms::{self, Room};
 use crate::schedules::LONG;
 use second::job::{Instruction, Model};
 use second::long_threads::{ends_high, HIGH_END, HIGH_GOAL};
-use second::machine::SLOT_BYTES;
-use second::{dead_code, long_threads, Job};
+use second::machine::{Reason, SLOT_BYTES};
+use second::{dead_code, decode, long_threads, reasons, Job};
 use std::collections::BTreeMap;
 
 type Class = (&'static str, &'static str);
@@ -22,6 +22,13 @@ const REFUSED_SEARCHES: &str = "searches refused by";
 const MODELS: [&str; 3] = ["searches, SC", "searches, TSO", "searches, PSO"];
 const DISTANCE: &str = "distances";
 const REPLAYS: &str = "replays";
+const STUCK_BY: [&str; 3] = [
+    "stuck under SC by",
+    "stuck under TSO by",
+    "stuck under PSO by",
+];
+const FULL_AT: &str = "buffer full at C";
+const STUCK: [&str; 3] = ["stuck under SC", "stuck under TSO", "stuck under PSO"];
 const FENCES: &str = "fence checks";
 const THREADS: &str = "threads";
 const VARIABLES: &str = "variables";
@@ -37,7 +44,7 @@ const DEAD_CODE_CHECKS: &str = "dead code, checks";
 const PIECE_ALONE: &str = "one piece apart";
 
 /// Every class that is named in the summary, in its order.
-const SECTIONS: [(&str, &[&str]); 24] = [
+const SECTIONS: [(&str, &[&str]); 31] = [
     (JOBS, &["accepted", "refused"]),
     (REFUSED, &["1", "2", "3", "4", "5", "6"]),
     (THREADS, &["1", "2", "3", "4"]),
@@ -111,8 +118,55 @@ const SECTIONS: [(&str, &[&str]); 24] = [
             "stuck behind 65,536",
         ],
     ),
+    // Without buffers no thread waits, and PSO has no store behind one to another variable.
+    (STUCK_BY[0], &["1", "2", "5"]),
+    (STUCK_BY[1], &["1", "2", "3", "4", "5", "6"]),
+    (STUCK_BY[2], &["1", "2", "3", "4", "5"]),
+    (FULL_AT, &["1", "2", "3", "4", "5", "6", "7", "8"]),
+    (
+        STUCK[0],
+        &[
+            reasons::ABOVE_35,
+            reasons::ABSENT_THREAD,
+            reasons::ABSENT_THREAD_FLUSH,
+            reasons::ABSENT_VARIABLE,
+            reasons::BOTH_ABSENT,
+            reasons::FLUSH_OF_ENDED,
+        ],
+    ),
+    (STUCK[1], &reasons::NEIGHBOURS),
+    (
+        STUCK[2],
+        &[
+            reasons::ABOVE_35,
+            reasons::ABSENT_THREAD,
+            reasons::ABSENT_THREAD_FLUSH,
+            reasons::ABSENT_VARIABLE,
+            reasons::BOTH_ABSENT,
+            reasons::ENDED_AT_FULL,
+            reasons::BARRIER_AT_FULL,
+            reasons::FLUSH_OF_ENDED,
+            reasons::FLUSH_OF_WAITING,
+            reasons::FLUSH_BESIDE,
+        ],
+    ),
     (FENCES, &["refused", "FENCED", "OPEN"]),
     ("calls", &["search", "replay", "fence check"]),
+];
+
+/// Sections whose classes are numbers themselves.
+const NUMBERED: [&str; 11] = [
+    REFUSED,
+    REFUSED_SEARCHES,
+    THREADS,
+    VARIABLES,
+    CAPACITY,
+    DISTANCE,
+    PIECE_ALONE,
+    STUCK_BY[0],
+    STUCK_BY[1],
+    STUCK_BY[2],
+    FULL_AT,
 ];
 
 #[derive(Clone, Debug, Default, PartialEq, Eq)]
@@ -273,7 +327,7 @@ impl Tally {
     pub fn call(&mut self, call: &Call, model: Option<Model>) {
         match call.kind {
             Kind::Search => self.search(call.words(), model),
-            Kind::Replay => self.replay(call.words(), call.schedule.count()),
+            Kind::Replay => self.replay(call),
             Kind::Fences => self.fences(call.words()),
         }
         self.high_end(call);
@@ -320,7 +374,8 @@ impl Tally {
         }
     }
 
-    fn replay(&mut self, [kind, first, ..]: [u64; 4], steps: usize) {
+    fn replay(&mut self, call: &Call) {
+        let [kind, first, reason, _] = call.words();
         self.count("calls", "replay");
         let class = match kind {
             0 => "refused",
@@ -330,11 +385,30 @@ impl Tally {
             4.. => panic!("{kind} is no kind of answer to a replay"),
         };
         self.count(REPLAYS, class);
-        let taken = if kind == 3 { first } else { steps as u64 };
+        let steps = call.schedule.count() as u64;
+        let taken = if kind == 3 { first } else { steps };
         if kind != 0 && taken > LONG as u64 {
             self.count(REPLAYS, "over 65,536 steps");
             if kind == 3 {
                 self.count(REPLAYS, "stuck behind 65,536");
+            }
+        }
+        if let (3, Ok(job)) = (kind, decode(call.job.part())) {
+            self.stuck(call, &job, reason);
+        }
+    }
+
+    /// A stuck replay: its reason, and where another could be taken for it.
+    fn stuck(&mut self, call: &Call, job: &Job, reason: u64) {
+        let model = job.model as usize;
+        self.count(STUCK_BY[model], NUMBERS[reason as usize]);
+        if reason == u64::from(Reason::BufferFull.number()) {
+            self.count(FULL_AT, NUMBERS[job.capacity]);
+        }
+        for class in reasons::of_replay(call.job.part(), call.schedule.part()) {
+            assert!(!reasons::NEVER.contains(&class), "{class} can't come up");
+            if reasons::NEIGHBOURS.contains(&class) {
+                self.count(STUCK[model], class);
             }
         }
     }
@@ -356,13 +430,13 @@ impl Tally {
         for (section, classes) in SECTIONS {
             let counts: Vec<String> = classes
                 .iter()
-                .map(|&class| match section {
-                    // These classes are numbers themselves.
-                    REFUSED | REFUSED_SEARCHES | THREADS | VARIABLES | CAPACITY | DISTANCE
-                    | PIECE_ALONE => {
-                        format!("{class}: {}", self.counted(section, class))
+                .map(|&class| {
+                    let count = self.counted(section, class);
+                    if NUMBERED.contains(&section) {
+                        format!("{class}: {count}")
+                    } else {
+                        format!("{class} {count}")
                     }
-                    _ => format!("{class} {}", self.counted(section, class)),
                 })
                 .collect();
             text += &format!("{section:20} {}\n", counts.join(", "));

@@ -2,7 +2,8 @@
 
 use compare::library::{fences, replay, search};
 use second::listed::{
-    at_the_limit, bench_list, file, settled, too_long_threads, with_byte, P1, SC,
+    at_the_limit, bench_list, file, settled, too_long_threads, with_byte, Memory, Program,
+    AT_THE_START, P1, PSO, SC, TSO,
 };
 use second::machine::SLOT_BYTES;
 
@@ -168,14 +169,15 @@ fn found_schedules_replay_to_their_goals() {
 
 #[test]
 fn p10_is_stuck_on_a_full_buffer() {
-    assert_eq!(replay(&p(10), &[0, 0]), [3, 1, 0, 0]);
+    // The second of two stores, at C = 1.
+    assert_eq!(replay(&p(10), &[0, 0]), [3, 1, 3, 0]);
 }
 
 #[test]
 fn p11_numbers_above_35_are_no_steps() {
     for step in [0x24, 63, 64, 128, 255] {
-        assert_eq!(replay(&p(11), &[step]), [3, 0, 0, 0]);
-        assert_eq!(replay(&P1, &[0, 0, step, 1]), [3, 2, 0, 0]);
+        assert_eq!(replay(&p(11), &[step]), [3, 0, 1, 0]);
+        assert_eq!(replay(&P1, &[0, 0, step, 1]), [3, 2, 1, 0]);
     }
 }
 
@@ -298,7 +300,8 @@ fn a_thread_of_64_runs_to_its_end() {
     assert_eq!(run(&job, 64).answer, [3, 64, 0, 0]);
     assert_eq!(replay(&job, &[0; 64]), [1, 0, 0, 0]);
     assert_eq!(replay(&job, &[0; 63]), [2, 0, 0, 0]);
-    assert_eq!(replay(&job, &[0; 65]), [3, 64, 0, 0]);
+    // At place 64 it has ended.
+    assert_eq!(replay(&job, &[0; 65]), [3, 64, 2, 0]);
 }
 
 #[test]
@@ -390,4 +393,346 @@ fn moves_and_not_runs_decide_whether_a_store_is_dead() {
     assert_eq!(check(&[[8, 0, 3, 0], STORE, LOAD]), [2, 0, 1, 2]);
     // No move leads to place 0, and none has to.
     assert_eq!(check(&[STORE, LOAD, jump(2)]), [2, 0, 0, 1]);
+}
+
+// ---- why a step can't be taken: each reason under each model where it can come up ----
+
+/// Taken to the end, without the goal and with it.
+const FALLS_SHORT: [u64; 4] = [2, 0, 0, 0];
+const REACHES: [u64; 4] = [1, 0, 0, 0];
+
+/// Each model, with room for two stores where there is a buffer.
+const EACH_MODEL: [Memory; 3] = [SC, [TSO, 2], [PSO, 2]];
+const WITH_BUFFERS: [Memory; 2] = [[TSO, 2], [PSO, 2]];
+
+const EXCHANGE: [u8; 4] = [7, 0, 0, 0];
+
+const fn store(variable: u8) -> [u8; 4] {
+    [5, 0, variable, 1]
+}
+
+/// The step that flushes the thread's store to the variable.
+const fn flush(thread: u8, variable: u8) -> u8 {
+    4 + 8 * thread + variable
+}
+
+/// V variables that hold 0; the goal holds for as long as thread 0 has not run.
+fn job(memory: Memory, variables: usize, programs: &[Program]) -> Vec<u8> {
+    file(memory, &vec![0; variables], programs, 0, &[AT_THE_START])
+}
+
+/// T = 3 and V = 2. Thread 0 stores to 0, 1 and 0 again, thread 1 stores to 0 and comes to a FENCE, thread 2 has no instructions.
+fn three_threads(memory: Memory) -> Vec<u8> {
+    let first = vec![store(0), store(1), store(0)];
+    job(memory, 2, &[first, vec![store(0), FENCE], vec![]])
+}
+
+#[test]
+fn reason_1_no_such_step_under_each_model() {
+    // Numbers above 35; thread 3, where T is 3; variables 2 to 7, where V is 2.
+    let above = [36, 37, 63, 64, 100, 128, 255];
+    let no_thread = [3, flush(3, 0), flush(3, 1)];
+    let no_variable = [flush(0, 2), flush(1, 2), flush(2, 2), flush(0, 7)];
+    let neither = [flush(3, 2), flush(3, 7)];
+    for memory in EACH_MODEL {
+        let job = three_threads(memory);
+        for step in [&above[..], &no_thread, &no_variable, &neither].concat() {
+            assert_eq!(replay(&job, &[step]), [3, 0, 1, 0], "{step}");
+            // There is never such a step: what has run before makes no difference.
+            assert_eq!(replay(&job, &[0, 1, 0, step]), [3, 3, 1, 0], "{step}");
+        }
+    }
+}
+
+#[test]
+fn no_thread_and_no_variable_is_absent_at_four_and_eight() {
+    // The greatest step is 35, the flush of thread 3 to variable 7: it is there, but there is nothing to flush.
+    assert_eq!(flush(3, 7), 35);
+    for memory in EACH_MODEL {
+        let job = job(memory, 8, &vec![vec![store(7)]; 4]);
+        assert_eq!(replay(&job, &[35]), [3, 0, 5, 0]);
+        assert_eq!(replay(&job, &[36]), [3, 0, 1, 0]);
+        assert_eq!(replay(&job, &[3, 3]), [3, 1, 2, 0]);
+    }
+    let job = job([PSO, 1], 8, &vec![vec![store(7)]; 4]);
+    assert_eq!(replay(&job, &[3, 35]), REACHES);
+}
+
+#[test]
+fn reason_2_thread_ended_under_each_model() {
+    for memory in EACH_MODEL {
+        let job = three_threads(memory);
+        // Thread 2 has n = 0, and is at place 0 from the start.
+        assert_eq!(replay(&job, &[2]), [3, 0, 2, 0]);
+        assert_eq!(replay(&job, &[0, 1, 2, 0]), [3, 2, 2, 0]);
+    }
+    // Under SC nothing waits, so three steps are thread 0's end and two are thread 1's.
+    let sc = three_threads(SC);
+    assert_eq!(replay(&sc, &[0, 0, 0, 0]), [3, 3, 2, 0]);
+    assert_eq!(replay(&sc, &[1, 1, 1]), [3, 2, 2, 0]);
+    for memory in WITH_BUFFERS {
+        // Thread 1 gets past its FENCE once its store is flushed.
+        let job = three_threads(memory);
+        assert_eq!(replay(&job, &[1, flush(1, 0), 1, 1]), [3, 3, 2, 0]);
+    }
+}
+
+#[test]
+fn reason_3_buffer_full_under_tso_and_pso() {
+    for model in [TSO, PSO] {
+        // Thread 0 has three stores, so the one that finds C pending is the last at C = 2 and the second at C = 1.
+        let two = three_threads([model, 2]);
+        assert_eq!(replay(&two, &[0, 0, 0]), [3, 2, 3, 0]);
+        // A flush makes room for it, and another thread's stores take none.
+        assert_eq!(replay(&two, &[0, 0, flush(0, 0), 0]), FALLS_SHORT);
+        assert_eq!(replay(&two, &[1, 0, 0, 0]), [3, 3, 3, 0]);
+        let one = three_threads([model, 1]);
+        assert_eq!(replay(&one, &[0, 0]), [3, 1, 3, 0]);
+        let three = three_threads([model, 3]);
+        assert_eq!(replay(&three, &[0, 0, 0]), FALLS_SHORT);
+        // At the greatest C the ninth store waits, of a register as well as of a constant.
+        for ninth in [store(0), [4, 3, 1, 0]] {
+            let stores = [vec![store(0); 8], vec![ninth]].concat();
+            let eight = job([model, 8], 2, &[stores]);
+            assert_eq!(replay(&eight, &[0; 8]), FALLS_SHORT);
+            assert_eq!(replay(&eight, &[0; 9]), [3, 8, 3, 0]);
+        }
+    }
+    // Never under SC: C is 0 there, and no store is pending ever.
+    assert_eq!(replay(&three_threads(SC), &[0, 0, 0]), FALLS_SHORT);
+}
+
+#[test]
+fn reason_4_buffer_not_empty_under_tso_and_pso() {
+    for barrier in [FENCE, EXCHANGE, [7, 3, 1, 0]] {
+        let programs = [vec![store(0)], vec![store(0), store(1), barrier]];
+        for memory in WITH_BUFFERS {
+            let job = job(memory, 2, &programs);
+            // Both stores of thread 1 are pending, then one of them, then none; that thread 0 has one doesn't count.
+            let [first, second] = [flush(1, 0), flush(1, 1)];
+            assert_eq!(replay(&job, &[1, 1, 1]), [3, 2, 4, 0]);
+            assert_eq!(replay(&job, &[1, 1, first, 1]), [3, 3, 4, 0]);
+            assert_eq!(replay(&job, &[1, 1, first, second, 1]), REACHES);
+            let other = [0, 1, 1, first, second, 1];
+            assert_eq!(replay(&job, &other), FALLS_SHORT);
+        }
+        // Under SC there is no buffer, so it waits for nothing.
+        assert_eq!(replay(&job(SC, 2, &programs), &[1, 1, 1]), REACHES);
+    }
+}
+
+#[test]
+fn reason_5_nothing_to_flush_under_each_model() {
+    for memory in EACH_MODEL {
+        let job = three_threads(memory);
+        for step in [flush(0, 0), flush(0, 1), flush(1, 1), flush(2, 0)] {
+            // Nothing has been stored yet.
+            assert_eq!(replay(&job, &[step]), [3, 0, 5, 0], "{step}");
+        }
+        // What is pending, if anything, is thread 0's store to variable 0.
+        for step in [flush(0, 1), flush(1, 0), flush(1, 1), flush(2, 0)] {
+            assert_eq!(replay(&job, &[0, step]), [3, 1, 5, 0], "{step}");
+        }
+    }
+    for memory in WITH_BUFFERS {
+        // It is flushed once, and then it is pending no more.
+        let job = three_threads(memory);
+        assert_eq!(replay(&job, &[0, flush(0, 0)]), FALLS_SHORT);
+        let twice = [0, flush(0, 0), flush(0, 0)];
+        assert_eq!(replay(&job, &twice), [3, 2, 5, 0]);
+    }
+}
+
+#[test]
+fn reason_6_not_the_oldest_under_tso() {
+    // Thread 0 has a store to 0 and behind it one to 1. Of these the one to 0 is the oldest, and once it is flushed the other is.
+    let tso = three_threads([TSO, 2]);
+    assert_eq!(replay(&tso, &[0, 0, flush(0, 1)]), [3, 2, 6, 0]);
+    let in_order = [0, 0, flush(0, 0), flush(0, 1)];
+    assert_eq!(replay(&tso, &in_order), FALLS_SHORT);
+    // With the third store to 0 behind it: now the one to 1 is the oldest.
+    let third = [0, 0, flush(0, 0), 0, flush(0, 0)];
+    assert_eq!(replay(&tso, &third), [3, 4, 6, 0]);
+    // PSO flushes the oldest to a chosen variable, in any order of these.
+    let pso = three_threads([PSO, 2]);
+    assert_eq!(replay(&pso, &[0, 0, flush(0, 1)]), FALLS_SHORT);
+    assert_eq!(replay(&pso, &third), FALLS_SHORT);
+}
+
+// ---- where two reasons could apply: the first of them is given ----
+
+#[test]
+fn an_absent_thread_is_not_ended() {
+    // T is 1 to 4: thread T is not there, and thread T - 1 is, though it has no instructions either.
+    for memory in EACH_MODEL {
+        for threads in 1..=4 {
+            let job = job(memory, 1, &vec![vec![]; usize::from(threads)]);
+            assert_eq!(replay(&job, &[threads - 1]), [3, 0, 2, 0]);
+            for absent in threads..4 {
+                assert_eq!(replay(&job, &[absent]), [3, 0, 1, 0]);
+                assert_eq!(replay(&job, &[flush(absent, 0)]), [3, 0, 1, 0]);
+            }
+        }
+    }
+}
+
+#[test]
+fn a_variable_from_v_up_is_no_such_step_before_there_is_nothing_to_flush() {
+    for memory in EACH_MODEL {
+        for variables in 1..=8 {
+            // One thread, which has its one store pending, to the last variable.
+            let job = job(
+                memory,
+                usize::from(variables),
+                &[vec![store(variables - 1)]],
+            );
+            for variable in 0..8 {
+                // Below V nothing is pending but the last, and under SC not even that.
+                let own = match variable {
+                    _ if variable >= variables => [3, 1, 1, 0],
+                    _ if variable == variables - 1 && memory != SC => FALLS_SHORT,
+                    _ => [3, 1, 5, 0],
+                };
+                assert_eq!(replay(&job, &[0, flush(0, variable)]), own);
+                // Of an absent thread there is no such step, whether the variable is there or not.
+                for absent in 1..4 {
+                    let step = flush(absent, variable);
+                    assert_eq!(replay(&job, &[0, step]), [3, 1, 1, 0], "{step}");
+                }
+            }
+        }
+    }
+}
+
+#[test]
+fn under_tso_behind_another_and_not_pending_at_all_differ() {
+    // Four variables; `stores` run and then the flush to each variable is tried.
+    let after = |model, stores: &[u8], flushed: &[u8]| -> [[u64; 4]; 4] {
+        let program: Program = stores.iter().map(|&variable| store(variable)).collect();
+        let job = job([model, 4], 4, &[program]);
+        let flushes = flushed.iter().map(|&variable| flush(0, variable));
+        let before: Vec<u8> = vec![0; stores.len()].into_iter().chain(flushes).collect();
+        [0, 1, 2, 3].map(|variable| replay(&job, &[&before[..], &[flush(0, variable)]].concat()))
+    };
+    let [nothing, behind] = [5, 6].map(|reason| move |at| [3, at, reason, 0]);
+    let taken = FALLS_SHORT;
+    // 1 and 3 are pending behind 2, 0 is not pending.
+    assert_eq!(
+        after(TSO, &[2, 1, 3], &[]),
+        [nothing(3), behind(3), taken, behind(3)]
+    );
+    assert_eq!(
+        after(PSO, &[2, 1, 3], &[]),
+        [nothing(3), taken, taken, taken]
+    );
+    // With 2 flushed it is not pending any more, and 1 is the oldest.
+    assert_eq!(
+        after(TSO, &[2, 1, 3], &[2]),
+        [nothing(4), taken, nothing(4), behind(4)]
+    );
+    // Twice to one variable: the oldest is to 0, and so the flush to 0 takes it, whatever is behind.
+    assert_eq!(
+        after(TSO, &[0, 1, 0], &[]),
+        [taken, behind(3), nothing(3), nothing(3)]
+    );
+    assert_eq!(
+        after(TSO, &[0, 1, 0], &[0]),
+        [behind(4), taken, nothing(4), nothing(4)]
+    );
+    // Only one variable is pending, so nothing is behind another; and nothing is in an empty buffer.
+    assert_eq!(
+        after(TSO, &[3, 3], &[]),
+        [nothing(2), nothing(2), nothing(2), taken]
+    );
+    assert_eq!(after(TSO, &[], &[]), [nothing(0); 4]);
+}
+
+#[test]
+fn under_sc_a_flush_is_a_step_with_nothing_to_flush() {
+    // Below T and V it is 5 before any store and behind all of them, since stores go straight to memory.
+    let sc = three_threads(SC);
+    for thread in 0..3 {
+        for variable in 0..2 {
+            let step = flush(thread, variable);
+            assert_eq!(replay(&sc, &[step]), [3, 0, 5, 0], "{step}");
+            let behind = [0, 0, 0, 1, 1, step];
+            assert_eq!(replay(&sc, &behind), [3, 5, 5, 0], "{step}");
+        }
+        assert_eq!(replay(&sc, &[flush(thread, 2)]), [3, 0, 1, 0]);
+    }
+}
+
+#[test]
+fn a_flush_of_an_ended_thread_is_judged_like_any_other() {
+    // Thread 0 has ended behind its stores to 0 and 1, and thread 1 from the start; V is 3.
+    let programs = [vec![store(0), store(1)], vec![]];
+    for memory in EACH_MODEL {
+        let job = job(memory, 3, &programs);
+        assert_eq!(replay(&job, &[0, 0, 0]), [3, 2, 2, 0]);
+        assert_eq!(replay(&job, &[0, 0, flush(0, 2)]), [3, 2, 5, 0]);
+        assert_eq!(replay(&job, &[0, 0, flush(0, 3)]), [3, 2, 1, 0]);
+        assert_eq!(replay(&job, &[flush(1, 0)]), [3, 0, 5, 0]);
+        // The first store, and the one behind it.
+        let [oldest, second] = match memory[0] {
+            TSO => [FALLS_SHORT, [3, 2, 6, 0]],
+            PSO => [FALLS_SHORT, FALLS_SHORT],
+            _ => [[3, 2, 5, 0]; 2],
+        };
+        assert_eq!(replay(&job, &[0, 0, flush(0, 0)]), oldest);
+        assert_eq!(replay(&job, &[0, 0, flush(0, 1)]), second);
+        if memory != SC {
+            // All flushed.
+            let before = [0, 0, flush(0, 0), flush(0, 1)];
+            for (step, reason) in [(0, 2), (flush(0, 0), 5), (flush(0, 1), 5)] {
+                let schedule = [&before[..], &[step]].concat();
+                assert_eq!(replay(&job, &schedule), [3, 4, reason, 0]);
+            }
+        }
+    }
+}
+
+#[test]
+fn what_comes_next_decides_at_a_full_buffer() {
+    // C stores are pending, so the buffer is both full and not empty: a store waits for room, FENCE and XCHG for an empty
+    // buffer, an ended thread for nothing, and any other instruction runs.
+    let next = [
+        (vec![store(0)], Some(3)),
+        (vec![[4, 1, 1, 0]], Some(3)),
+        (vec![FENCE], Some(4)),
+        (vec![EXCHANGE], Some(4)),
+        (vec![], Some(2)),
+        (vec![LOAD], None),
+        (vec![jump(1)], None),
+    ];
+    for model in [TSO, PSO] {
+        for capacity in 1..=8 {
+            for (next, reason) in &next {
+                let count = usize::from(capacity);
+                let full: Program = (0..capacity).map(|place| store(place % 2)).collect();
+                let job = job([model, capacity], 2, &[[&full[..], next].concat()]);
+                let words = match *reason {
+                    Some(reason) => [3, u64::from(capacity), reason, 0],
+                    None => FALLS_SHORT,
+                };
+                assert_eq!(replay(&job, &vec![0; count + 1]), words, "{next:?}");
+            }
+        }
+    }
+}
+
+#[test]
+fn the_reason_is_that_of_the_first_step_that_cannot_be_taken() {
+    let tso = three_threads([TSO, 2]);
+    // Another that can't be taken stands behind it: of thread 3, which is absent, and thread 2, which has ended, and of two flushes.
+    assert_eq!(replay(&tso, &[3, 2]), [3, 0, 1, 0]);
+    assert_eq!(replay(&tso, &[2, 3]), [3, 0, 2, 0]);
+    let [nothing, behind] = [flush(1, 1), flush(0, 1)];
+    assert_eq!(replay(&tso, &[0, 0, nothing, behind]), [3, 2, 5, 0]);
+    assert_eq!(replay(&tso, &[0, 0, behind, nothing]), [3, 2, 6, 0]);
+    // And it is that of the state which the step is to be taken in: there is no store to 1 yet, and still none; then it is behind
+    // the one to 0; then it is the oldest.
+    assert_eq!(replay(&tso, &[behind]), [3, 0, 5, 0]);
+    assert_eq!(replay(&tso, &[0, behind]), [3, 1, 5, 0]);
+    assert_eq!(replay(&tso, &[0, 0, behind]), [3, 2, 6, 0]);
+    assert_eq!(replay(&tso, &[0, 0, flush(0, 0), behind]), FALLS_SHORT);
 }

@@ -7,14 +7,15 @@ use compare::jobs;
 use compare::run::{run, Plan, Report};
 use second::dead_code::{fences_shut, jeq_always_jumps, jeq_never_jumps, live_if, never_back};
 use second::fences::{live_places, open_run_or_not, OpenPair};
-use second::job::Instruction;
+use second::job::{Instruction, Model};
 use second::listed::{with_byte, P1};
 use second::long_threads::{
     ends_high, of_job, FULL_SIZE, HIGH_END, HIGH_GOAL, LONG_THREAD, ONE_TOO_MANY,
 };
-use second::machine::SLOT_BYTES;
+use second::machine::{reason, Reason, State, Step, REASONS, SLOT_BYTES};
 use second::random::{Random, Sizes};
-use second::{dead_code, decode, long_threads, Job, Refusal};
+use second::replay::{follow, follow_until_stuck};
+use second::{dead_code, decode, long_threads, reasons, Job, Refusal};
 use std::collections::BTreeSet;
 use std::ops::Range;
 
@@ -678,10 +679,349 @@ fn a_replay_that_always_reaches_or_is_stuck_elsewhere() {
         }
     });
     first_difference(|call| {
-        if let (Kind::Replay, [3, at, ..]) = (call.kind, call.words()) {
-            set_answer(call, [3, at + 1, 0, 0]);
+        if let (Kind::Replay, [3, at, reason, _]) = (call.kind, call.words()) {
+            set_answer(call, [3, at + 1, reason, 0]);
         }
     });
+}
+
+/// Jobs enough to meet each reason under each model, and what is rare among them.
+const FOR_REASONS: u64 = 1000;
+
+const MODELS: [Model; 3] = [Model::Sc, Model::Tso, Model::Pso];
+
+/// The reasons that can come up under a model.
+fn reasons_under(model: Model) -> &'static [u64] {
+    match model {
+        Model::Sc => &[1, 2, 5],
+        Model::Tso => &[1, 2, 3, 4, 5, 6],
+        Model::Pso => &[1, 2, 3, 4, 5],
+    }
+}
+
+/// Where a replay is stuck.
+struct Stuck<'a> {
+    job: &'a Job,
+    state: &'a State,
+    schedule: &'a [u8],
+    at: usize,
+    reason: Reason,
+}
+
+impl Stuck<'_> {
+    fn number(&self) -> u8 {
+        self.schedule[self.at]
+    }
+
+    fn is_by(&self, model: Model, reason: u64) -> bool {
+        self.job.model == model && u64::from(self.reason.number()) == reason
+    }
+
+    fn flushes(&self) -> Option<(usize, usize)> {
+        match Step::from_number(self.number()) {
+            Some(Step::Flush { thread, variable }) => Some((thread, variable)),
+            Some(Step::Execute { .. }) | None => None,
+        }
+    }
+
+    fn executes(&self) -> Option<usize> {
+        match Step::from_number(self.number()) {
+            Some(Step::Execute { thread }) => Some(thread),
+            Some(Step::Flush { .. }) | None => None,
+        }
+    }
+
+    /// How many stores of the thread are pending, if it is there.
+    fn pending(&self, thread: usize) -> usize {
+        let own = self.state.threads.get(thread);
+        own.map_or(0, |own| own.pending())
+    }
+
+    /// Whether C stores of the thread that is to execute are pending.
+    fn is_full(&self) -> bool {
+        let pending = self.executes().map(|thread| self.pending(thread));
+        self.job.model != Model::Sc && pending == Some(self.job.capacity)
+    }
+
+    fn has_thread(&self, thread: usize) -> bool {
+        thread < self.job.programs.len()
+    }
+
+    fn has_variable(&self, variable: usize) -> bool {
+        variable < self.job.initial.len()
+    }
+}
+
+/// A replay that answers so where it is stuck, and as it should where `answer` gives nothing.
+fn where_stuck(answer: impl Fn(&Stuck) -> Option<[u64; 4]> + Sync) -> impl Fn(&mut Call) + Sync {
+    move |call| {
+        if let (Kind::Replay, Ok(job)) = (call.kind, decode(call.job.part())) {
+            let schedule = call.schedule.part();
+            if let (state, Some(found)) = follow_until_stuck(&job, schedule) {
+                let wrong = answer(&Stuck {
+                    job: &job,
+                    state: &state,
+                    schedule,
+                    at: found.at,
+                    reason: found.reason,
+                });
+                if let Some(words) = wrong {
+                    set_answer(call, words);
+                }
+            }
+        }
+    }
+}
+
+/// A replay that says the right place of a stuck step, and this for its reason.
+fn saying(wrong: impl Fn(&Stuck) -> Option<u64> + Sync) -> impl Fn(&mut Call) + Sync {
+    where_stuck(move |stuck| wrong(stuck).map(|said| [3, stuck.at as u64, said, 0]))
+}
+
+/// A wrong reason is noticed as such: in the third word, and by the right one beside it.
+fn notices_reason(wrong: impl Fn(&Stuck) -> Option<u64> + Sync) -> String {
+    let text = first_difference_of(FOR_REASONS, saying(wrong));
+    assert!(
+        text.contains("answer: first difference at 2: library"),
+        "{text}"
+    );
+    text
+}
+
+#[test]
+fn a_right_stand_in_for_the_reasons_has_no_difference() {
+    let right = Spoiling(saying(|stuck| Some(u64::from(stuck.reason.number()))));
+    assert_eq!(report(&right, 1000, 1).differences, 0);
+}
+
+/// Says this for that reason under that model, and is right elsewhere.
+fn notices_said_for(said: u64, right: u64, model: Model) {
+    let text = notices_reason(|stuck| stuck.is_by(model, right).then_some(said));
+    let words = format!("library {said}, second checker {right}");
+    assert!(text.contains(&words), "{text}");
+}
+
+#[test]
+fn a_neighbouring_reason() {
+    for model in MODELS {
+        for &right in reasons_under(model) {
+            notices_said_for(right - 1, right, model);
+            notices_said_for(right + 1, right, model);
+        }
+    }
+}
+
+#[test]
+fn no_reason_where_the_replay_is_stuck() {
+    for model in MODELS {
+        for &right in reasons_under(model) {
+            notices_said_for(0, right, model);
+        }
+    }
+}
+
+#[test]
+fn one_reason_for_all() {
+    for said in 0..=7 {
+        notices_reason(|_| Some(said));
+    }
+}
+
+#[test]
+fn two_reasons_exchanged() {
+    for first in REASONS {
+        for second in REASONS.into_iter().filter(|&second| second > first) {
+            notices_reason(|stuck| match stuck.reason {
+                reason if reason == first => Some(u64::from(second.number())),
+                reason if reason == second => Some(u64::from(first.number())),
+                _ => None,
+            });
+        }
+    }
+}
+
+#[test]
+fn reasons_5_and_6_exchanged_where_stores_are_pending() {
+    // Said to be behind another where it isn't pending, and the other way round.
+    for right in [5, 6] {
+        notices_reason(|stuck| {
+            let (thread, _) = stuck.flushes()?;
+            let beside = stuck.is_by(Model::Tso, right) && stuck.pending(thread) > 0;
+            beside.then_some(11 - right)
+        });
+    }
+    // PSO has no store that is behind one to another variable.
+    notices_reason(|stuck| {
+        let (thread, _) = stuck.flushes()?;
+        let beside = stuck.is_by(Model::Pso, 5) && stuck.pending(thread) > 0;
+        beside.then_some(6)
+    });
+}
+
+#[test]
+fn the_reason_of_the_step_before() {
+    let number = |reason: Reason| u64::from(reason.number());
+    // What the same step would have had for a reason in the state before.
+    notices_reason(|stuck| {
+        let (before, _) = follow(stuck.job, &stuck.schedule[..stuck.at.checked_sub(1)?]);
+        reason(stuck.job, &before, stuck.number()).map(number)
+    });
+    // That one, or none where it could have been taken then.
+    notices_reason(|stuck| {
+        let (before, _) = follow(stuck.job, &stuck.schedule[..stuck.at.checked_sub(1)?]);
+        Some(reason(stuck.job, &before, stuck.number()).map_or(0, number))
+    });
+    // What the number before it has for a reason here, and what the number behind it has.
+    notices_reason(|stuck| {
+        let before = stuck.schedule[stuck.at.checked_sub(1)?];
+        reason(stuck.job, stuck.state, before).map(number)
+    });
+    notices_reason(|stuck| {
+        let behind = *stuck.schedule.get(stuck.at + 1)?;
+        reason(stuck.job, stuck.state, behind).map(number)
+    });
+    // What the step has for a reason at the start.
+    notices_reason(|stuck| {
+        let start = State::start(stuck.job);
+        reason(stuck.job, &start, stuck.number()).map(number)
+    });
+}
+
+#[test]
+fn an_absent_step_with_another_reason() {
+    for model in MODELS {
+        // An absent thread for an ended one.
+        notices_reason(|stuck| {
+            let absent = !stuck.has_thread(stuck.executes()?);
+            (stuck.job.model == model && absent).then_some(2)
+        });
+        // A thread without instructions for an absent one.
+        notices_reason(|stuck| {
+            let program = stuck.job.programs.get(stuck.executes()?)?;
+            (stuck.job.model == model && program.is_empty()).then_some(1)
+        });
+        // Nothing to flush, where the thread, the variable or both are absent.
+        for there in [[false, true], [true, false], [false, false]] {
+            notices_reason(|stuck| {
+                let (thread, variable) = stuck.flushes()?;
+                let found = [stuck.has_thread(thread), stuck.has_variable(variable)];
+                (stuck.job.model == model && found == there).then_some(5)
+            });
+        }
+        // Nothing to flush, or an ended thread, by a number above 35.
+        for said in [2, 5] {
+            notices_reason(|stuck| {
+                (stuck.job.model == model && stuck.number() > 35).then_some(said)
+            });
+        }
+    }
+    // Every flush under SC for no step at all.
+    notices_reason(|stuck| {
+        let (thread, variable) = stuck.flushes()?;
+        let there = stuck.has_thread(thread) && stuck.has_variable(variable);
+        (stuck.job.model == Model::Sc && there).then_some(1)
+    });
+}
+
+#[test]
+fn a_number_above_35_with_the_reason_of_its_low_bits() {
+    for bits in [63, 31] {
+        notices_reason(|stuck| match stuck.number() {
+            0..=35 => None,
+            number => reason(stuck.job, stuck.state, number & bits)
+                .map(|reason| u64::from(reason.number())),
+        });
+    }
+}
+
+#[test]
+fn a_full_buffer_where_something_else_is_the_reason() {
+    for model in [Model::Tso, Model::Pso] {
+        // FENCE or XCHG and the end at a full buffer.
+        for right in [4, 2] {
+            notices_reason(|stuck| (stuck.is_by(model, right) && stuck.is_full()).then_some(3));
+        }
+        // The end with any stores pending.
+        notices_reason(|stuck| {
+            let pending = stuck.pending(stuck.executes()?);
+            (stuck.is_by(model, 2) && pending > 0).then_some(4)
+        });
+        // A store at a full buffer.
+        for said in [2, 4] {
+            notices_reason(|stuck| stuck.is_by(model, 3).then_some(said));
+        }
+    }
+}
+
+#[test]
+fn a_flush_with_the_reason_of_its_thread() {
+    for model in MODELS {
+        let model_reasons = reasons_under(model).iter();
+        for &said in model_reasons.filter(|said| (2..5).contains(*said)) {
+            // Of an ended thread, of one that waits for room and of one that waits for an empty buffer.
+            notices_reason(|stuck| {
+                let (thread, _) = stuck.flushes()?;
+                let own = reason(stuck.job, stuck.state, thread as u8)?;
+                let is_so = u64::from(own.number()) == said;
+                (stuck.is_by(model, 5) && is_so).then_some(said)
+            });
+        }
+    }
+}
+
+#[test]
+fn a_step_that_cannot_be_taken_and_is_not_told() {
+    for model in MODELS {
+        for &right in reasons_under(model) {
+            for answer in [[1, 0, 0, 0], [2, 0, 0, 0]] {
+                let silent = where_stuck(move |stuck| stuck.is_by(model, right).then_some(answer));
+                let text = first_difference_of(FOR_REASONS, silent);
+                let words = format!("library {}, second checker 3", answer[0]);
+                assert!(text.contains(&words), "{text}");
+            }
+        }
+    }
+}
+
+#[test]
+fn a_reason_where_the_replay_is_not_stuck() {
+    for kind in [1, 2] {
+        for said in 1..=6 {
+            let text = first_difference(|call| {
+                if call.kind == Kind::Replay && call.words()[0] == kind {
+                    set_answer(call, [kind, 0, said, 0]);
+                }
+            });
+            let words = format!("answer: first difference at 2: library {said}, second checker 0");
+            assert!(text.contains(&words), "{text}");
+        }
+        // Stuck at the end, where no step stands, and at the last step.
+        for back in [0, 1] {
+            first_difference(|call| {
+                if call.kind == Kind::Replay && call.words()[0] == kind {
+                    let steps = call.schedule.count() as u64;
+                    set_answer(call, [3, steps.saturating_sub(back), 5, 0]);
+                }
+            });
+        }
+    }
+}
+
+#[test]
+fn a_reason_in_the_wrong_word() {
+    let misplaced: [fn(u64, u64) -> [u64; 4]; 4] = [
+        |at, reason| [3, reason, at, 0],
+        |at, reason| [3, at, 0, reason],
+        |at, reason| [3, at, reason, reason],
+        |at, reason| [3, at + reason, 0, 0],
+    ];
+    for wrong in misplaced {
+        first_difference(move |call| {
+            if let (Kind::Replay, [3, at, reason, _]) = (call.kind, call.words()) {
+                set_answer(call, wrong(at, reason));
+            }
+        });
+    }
 }
 
 #[test]
@@ -807,6 +1147,86 @@ fn a_run_without_dead_code_is_said_to_lack_it() {
         let met = class == dead_code::BY_THE_START;
         assert_eq!(lacking.contains(&named), !met, "{named} in {lacking:?}");
     }
+}
+
+/// The sections that count stuck replays of a model: by reason, and where another reason could be taken for the right one.
+fn stuck_sections(model: Model) -> [&'static str; 2] {
+    match model {
+        Model::Sc => ["stuck under SC by", "stuck under SC"],
+        Model::Tso => ["stuck under TSO by", "stuck under TSO"],
+        Model::Pso => ["stuck under PSO by", "stuck under PSO"],
+    }
+}
+
+const NUMBERS: [&str; 9] = ["0", "1", "2", "3", "4", "5", "6", "7", "8"];
+
+#[test]
+fn a_run_without_buffers_is_said_to_lack_the_reasons_of_buffers() {
+    // P5 alone, which is under SC: the fifth.
+    let lacking = report_from(&Second, 4, 1, 1).tally.empty_classes();
+    for model in [Model::Tso, Model::Pso] {
+        let [by, beside] = stuck_sections(model);
+        let by_reason = reasons_under(model).iter();
+        let mut named: Vec<String> = by_reason.map(|reason| format!("{by}: {reason}")).collect();
+        let beside = |class: &str| format!("{beside}: {class}");
+        named.extend(neighbours_under(model).iter().map(|class| beside(class)));
+        for class in named {
+            assert!(lacking.contains(&class), "{class} not in {lacking:?}");
+        }
+    }
+    for capacity in 1..=8 {
+        let class = format!("buffer full at C: {capacity}");
+        assert!(lacking.contains(&class), "{class} not in {lacking:?}");
+    }
+}
+
+/// The classes in which another reason could be taken for the right one under a model.
+fn neighbours_under(model: Model) -> Vec<&'static str> {
+    let of_buffers = [
+        reasons::ENDED_AT_FULL,
+        reasons::BARRIER_AT_FULL,
+        reasons::FLUSH_OF_WAITING,
+        reasons::FLUSH_BESIDE,
+    ];
+    let all = reasons::NEIGHBOURS.into_iter();
+    all.filter(|class| match model {
+        Model::Sc => !of_buffers.contains(class) && *class != reasons::OTHER_STATE_BEFORE,
+        Model::Tso => true,
+        // One step turns a reason into another only where a store comes to stand behind one to another variable.
+        Model::Pso => *class != reasons::OTHER_STATE_BEFORE,
+    })
+    .collect()
+}
+
+#[test]
+fn every_stuck_replay_is_counted_by_its_reason() {
+    let tally = report(&Second, 2000, 2).tally;
+    let mut all = 0;
+    for model in MODELS {
+        let [by, beside] = stuck_sections(model);
+        for (reason, number) in (0..).zip(NUMBERS) {
+            let count = tally.counted(by, number);
+            all += count;
+            // Each that can come up does so often, and the others never.
+            if reasons_under(model).contains(&reason) {
+                assert!(count > 15, "only {count} of {by} {reason}");
+            } else {
+                assert_eq!(count, 0, "{by} {reason}");
+            }
+        }
+        for class in reasons::NEIGHBOURS {
+            let count = tally.counted(beside, class);
+            if neighbours_under(model).contains(&class) {
+                assert!(count > 3, "only {count} of {beside} {class}");
+            } else {
+                assert_eq!(count, 0, "{beside} {class}");
+            }
+        }
+    }
+    assert_eq!(all, tally.counted("replays", "stuck"));
+    let full = [Model::Tso, Model::Pso].map(|model| tally.counted(stuck_sections(model)[0], "3"));
+    let by_capacity = NUMBERS.map(|capacity| tally.counted("buffer full at C", capacity));
+    assert_eq!(by_capacity.iter().sum::<u64>(), full.iter().sum());
 }
 
 #[test]

@@ -16,6 +16,8 @@ pub mod listed;
 pub mod long_threads;
 pub mod machine;
 pub mod random;
+pub mod reason_cases;
+pub mod reasons;
 pub mod replay;
 pub mod replay_cases;
 pub mod search;

@@ -117,7 +117,194 @@ impl Hash for State {
     }
 }
 
-/// Every enabled step with the state it leads to.
+/// What a step number stands for, whether or not the job has such a thread or variable.
+#[derive(Clone, Copy, Debug, PartialEq, Eq)]
+pub enum Step {
+    Execute { thread: usize },
+    Flush { thread: usize, variable: usize },
+}
+
+impl Step {
+    /// Thread t executes by t, and flushes its store to v by 4 + 8t + v; no number above 35 stands for anything.
+    pub fn from_number(number: u8) -> Option<Step> {
+        match number {
+            0..=3 => Some(Step::Execute {
+                thread: usize::from(number),
+            }),
+            4..=35 => Some(Step::Flush {
+                thread: usize::from(number - 4) / 8,
+                variable: usize::from(number - 4) % 8,
+            }),
+            36..=255 => None,
+        }
+    }
+}
+
+/// Why a step cannot be taken, each with its number.
+#[derive(Clone, Copy, Debug, PartialEq, Eq, PartialOrd, Ord, Hash)]
+pub enum Reason {
+    NoSuchStep = 1,
+    ThreadEnded = 2,
+    BufferFull = 3,
+    BufferNotEmpty = 4,
+    NothingToFlush = 5,
+    NotTheOldest = 6,
+}
+
+/// In the order in which they are judged: the first that applies is given.
+pub const REASONS: [Reason; 6] = [
+    Reason::NoSuchStep,
+    Reason::ThreadEnded,
+    Reason::BufferFull,
+    Reason::BufferNotEmpty,
+    Reason::NothingToFlush,
+    Reason::NotTheOldest,
+];
+
+impl Reason {
+    pub fn number(self) -> u8 {
+        self as u8
+    }
+
+    /// Whether this reason holds for the step, whatever the others do.
+    pub fn applies(self, job: &Job, state: &State, number: u8) -> bool {
+        match self {
+            Reason::NoSuchStep => no_such_step(job, number),
+            Reason::ThreadEnded => thread_ended(job, state, number),
+            Reason::BufferFull => buffer_full(job, state, number),
+            Reason::BufferNotEmpty => buffer_not_empty(job, state, number),
+            Reason::NothingToFlush => nothing_to_flush(state, number),
+            Reason::NotTheOldest => not_the_oldest(job, state, number),
+        }
+    }
+}
+
+/// The number is above 35, the thread is from T up, or the variable is from V up.
+fn no_such_step(job: &Job, number: u8) -> bool {
+    let thread_is_absent = |thread| thread >= job.programs.len();
+    let variable_is_absent = |variable| variable >= job.initial.len();
+    match Step::from_number(number) {
+        None => true,
+        Some(Step::Execute { thread }) => thread_is_absent(thread),
+        Some(Step::Flush { thread, variable }) => {
+            thread_is_absent(thread) || variable_is_absent(variable)
+        }
+    }
+}
+
+/// Execute steps: the thread is at place n. An absent thread has no instruction left either, so the order decides there.
+fn thread_ended(job: &Job, state: &State, number: u8) -> bool {
+    match Step::from_number(number) {
+        Some(Step::Execute { thread }) => next_instruction(job, state, thread).is_none(),
+        Some(Step::Flush { .. }) | None => false,
+    }
+}
+
+/// Execute steps under TSO and PSO: a store while C stores are pending. SC has no buffer that could be full.
+fn buffer_full(job: &Job, state: &State, number: u8) -> bool {
+    match Step::from_number(number) {
+        Some(Step::Execute { thread }) => {
+            let is_store = matches!(
+                next_instruction(job, state, thread),
+                Some(Instruction::StoreRegister { .. } | Instruction::StoreConstant { .. })
+            );
+            let is_full = pending_of(state, thread).count() >= job.capacity;
+            job.model != Model::Sc && is_store && is_full
+        }
+        Some(Step::Flush { .. }) | None => false,
+    }
+}
+
+/// Execute steps: FENCE or XCHG while a store of the thread is pending.
+fn buffer_not_empty(job: &Job, state: &State, number: u8) -> bool {
+    match Step::from_number(number) {
+        Some(Step::Execute { thread }) => {
+            let waits_for_empty = matches!(
+                next_instruction(job, state, thread),
+                Some(Instruction::Fence | Instruction::Exchange { .. })
+            );
+            waits_for_empty && pending_of(state, thread).count() > 0
+        }
+        Some(Step::Flush { .. }) | None => false,
+    }
+}
+
+/// Flush steps: no store of the thread to the variable is pending. Under SC that is always so.
+fn nothing_to_flush(state: &State, number: u8) -> bool {
+    match Step::from_number(number) {
+        Some(Step::Flush { thread, variable }) => !has_pending_to(state, thread, variable),
+        Some(Step::Execute { .. }) | None => false,
+    }
+}
+
+/// Flush steps under TSO: a store to the variable is pending, but the oldest is to another.
+fn not_the_oldest(job: &Job, state: &State, number: u8) -> bool {
+    match Step::from_number(number) {
+        Some(Step::Flush { thread, variable }) => {
+            // Under TSO all of a thread's stores stand in one lane, so the first is the oldest.
+            let oldest = pending_of(state, thread).next();
+            let is_behind = oldest.map_or(false, |store| usize::from(store.variable) != variable);
+            job.model == Model::Tso && has_pending_to(state, thread, variable) && is_behind
+        }
+        Some(Step::Execute { .. }) | None => false,
+    }
+}
+
+/// What the thread is to run next: nothing if it has ended, or if it is not there.
+fn next_instruction(job: &Job, state: &State, thread: usize) -> Option<Instruction> {
+    let place = state.threads.get(thread)?.place;
+    job.programs.get(thread)?.get(place).copied()
+}
+
+/// The thread's stores on their way to memory: none if it is not there.
+fn pending_of(state: &State, thread: usize) -> impl Iterator<Item = &Pending> {
+    let threads = state.threads.get(thread).into_iter();
+    threads.flat_map(|thread| thread.lanes.iter().flatten())
+}
+
+fn has_pending_to(state: &State, thread: usize, variable: usize) -> bool {
+    pending_of(state, thread).any(|store| usize::from(store.variable) == variable)
+}
+
+/// The first reason that applies to a step, if one does; without one the step is enabled.
+pub fn reason(job: &Job, state: &State, number: u8) -> Option<Reason> {
+    let mut in_order = REASONS.into_iter();
+    in_order.find(|reason| reason.applies(job, state, number))
+}
+
+/// The state after a step, or the reason why it cannot be taken.
+pub fn step(job: &Job, state: &State, number: u8) -> Result<State, Reason> {
+    match reason(job, state, number) {
+        Some(reason) => Err(reason),
+        None => {
+            let after = state_after(job, state, number);
+            Ok(after.expect("a step that no reason withholds can be taken"))
+        }
+    }
+}
+
+/// Takes a step that no reason withholds; under TSO the oldest store is then to the variable of a flush.
+fn state_after(job: &Job, state: &State, number: u8) -> Option<State> {
+    match Step::from_number(number)? {
+        Step::Execute { thread } => execute(job, state, thread),
+        Step::Flush { thread, variable } => {
+            let lane = match job.model {
+                Model::Sc => return None,
+                Model::Tso => 0,
+                Model::Pso => variable,
+            };
+            flush(state, thread, lane).map(|(_, next)| next)
+        }
+    }
+}
+
+/// Bit s is set exactly when step s has no reason.
+pub fn enabled(job: &Job, state: &State) -> u64 {
+    let steps = (0..64).filter(|&number| reason(job, state, number).is_none());
+    steps.fold(0, |bits, number| bits | 1 << number)
+}
+
+/// Every enabled step with the state it leads to: the same as `step` gives, but quicker, for the search.
 pub fn successors(job: &Job, state: &State) -> BTreeMap<u8, State> {
     let mut moves = BTreeMap::new();
     for thread in 0..state.threads.len() {

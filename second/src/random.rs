@@ -1,9 +1,10 @@
 //! Repeatable random jobs, buffer sizes and schedules for a comparison.
 
-use crate::job::{decode, LONGEST_FILE, MOST_INSTRUCTIONS};
+use crate::job::{decode, Job, LONGEST_FILE, MOST_INSTRUCTIONS};
 use crate::listed::AT_THE_START;
-use crate::machine::{successors, State, SLOT_BYTES};
+use crate::machine::{reason, successors, Reason, State, Step, SLOT_BYTES};
 use crate::search::search;
+use std::collections::BTreeMap;
 
 /// Splitmix64: tiny, and the same numbers everywhere for the same seed.
 #[derive(Clone, Debug)]
@@ -666,11 +667,12 @@ fn narrowed(random: &mut Random, slots: usize) -> Sizes {
 
 // ---- schedules ----
 
-/// A schedule for replay: found ones, walks, walks with a bad step, and random bytes.
+/// A schedule for replay: found ones, walks, walks into a step that cannot be taken, and random bytes, some with a bad step.
 pub fn replay_schedule(random: &mut Random, job: &[u8]) -> Vec<u8> {
     let mut schedule = match random.below(10) {
         0..=2 => found_schedule(job),
-        3..=8 => walk_schedule(random, job),
+        3..=5 => walk_schedule(random, job),
+        6..=8 => stuck_schedule(random, job),
         _ => (0..random.between(0, 12))
             .map(|_| random.below(40) as u8)
             .collect(),
@@ -682,6 +684,72 @@ pub fn replay_schedule(random: &mut Random, job: &[u8]) -> Vec<u8> {
         schedule.push(random.below(36) as u8);
     }
     schedule
+}
+
+/// A walk up to where some step cannot be taken, and that step, often for a reason that is seldom met.
+pub fn stuck_schedule(random: &mut Random, job: &[u8]) -> Vec<u8> {
+    let job = match decode(job) {
+        Ok(job) => job,
+        Err(_) => return Vec::new(),
+    };
+    // There are so many numbers above 35 that one has to stand for them all.
+    let above = random.between(36, 255) as u8;
+    let mut withheld: BTreeMap<Reason, Vec<(usize, u8)>> = BTreeMap::new();
+    let (walk, states) = busy_walk(random, &job);
+    for (taken, state) in states.iter().enumerate() {
+        for number in (0..36).chain([above]) {
+            if let Some(reason) = reason(&job, state, number) {
+                // Where stores are pending, another reason could be mistaken for the right one.
+                let weight = if has_pending(state, number) { 8 } else { 1 };
+                let places = withheld.entry(reason).or_default();
+                places.extend(vec![(taken, number); weight]);
+            }
+        }
+    }
+    let mut reasons: Vec<Reason> = withheld.keys().copied().collect();
+    if reasons.iter().any(is_seldom) && random.percent(60) {
+        reasons.retain(is_seldom);
+    }
+    let picked = random.pick(&reasons);
+    let (taken, number) = random.pick(&withheld[&picked]);
+    [&walk[..taken], &[number]].concat()
+}
+
+/// Whether stores of the step's thread are pending.
+fn has_pending(state: &State, number: u8) -> bool {
+    let thread = match Step::from_number(number) {
+        Some(Step::Execute { thread } | Step::Flush { thread, .. }) => state.threads.get(thread),
+        None => None,
+    };
+    thread.map_or(false, |thread| thread.pending() > 0)
+}
+
+/// Steps with one of the other reasons are there in almost every state.
+fn is_seldom(reason: &Reason) -> bool {
+    matches!(
+        reason,
+        Reason::BufferFull | Reason::BufferNotEmpty | Reason::NotTheOldest
+    )
+}
+
+/// A walk on which stores wait for long, so that buffers fill; with the states before it, on it and behind it.
+fn busy_walk(random: &mut Random, job: &Job) -> (Vec<u8>, Vec<State>) {
+    let mut walk = Vec::new();
+    let mut states = vec![State::start(job)];
+    for _ in 0..random.between(0, 30) {
+        let mut moves = successors(job, &states[walk.len()]);
+        let mut steps: Vec<u8> = moves.keys().copied().collect();
+        if steps.iter().any(|&step| step < 4) && random.percent(85) {
+            steps.retain(|&step| step < 4);
+        }
+        if steps.is_empty() {
+            break;
+        }
+        let step = random.pick(&steps);
+        walk.push(step);
+        states.extend(moves.remove(&step));
+    }
+    (walk, states)
 }
 
 /// The schedule that a search finds, or none.

@@ -9,6 +9,8 @@ use crate::listed::{
 };
 use crate::long_threads::{ends_high, of_job, HIGH_END, MOST_BEFORE, OF_JOBS};
 use crate::random::{damaged_job, found_schedule, replay_schedule, sound_job, Random};
+use crate::reason_cases;
+use crate::reasons::{of_replay, of_replays};
 use crate::replay::replay;
 use std::slice;
 
@@ -25,8 +27,16 @@ pub type Known = (Case, String);
 /// The longest schedule that the program under test has room for.
 pub const MOST_STEPS: usize = 70_000;
 
-const REACHES: &str = "REACHES";
+pub(crate) const REACHES: &str = "REACHES";
 const FALLS_SHORT: &str = "FALLS SHORT";
+
+// The numbers that request 5 gives to the reasons, written down apart from the machine's.
+pub(crate) const NO_SUCH_STEP: u8 = 1;
+pub(crate) const THREAD_ENDED: u8 = 2;
+pub(crate) const BUFFER_FULL: u8 = 3;
+pub(crate) const BUFFER_NOT_EMPTY: u8 = 4;
+pub(crate) const NOTHING_TO_FLUSH: u8 = 5;
+pub(crate) const NOT_THE_OLDEST: u8 = 6;
 
 /// What the program under test prints for a case.
 pub fn line(case: &Case) -> String {
@@ -34,7 +44,7 @@ pub fn line(case: &Case) -> String {
         [0, number, offset, _] => refused_line([number, offset]),
         [1, ..] => REACHES.to_string(),
         [2, ..] => FALLS_SHORT.to_string(),
-        [3, step, ..] => stuck_at(step as usize),
+        [3, step, reason, _] => stuck_at(step as usize, reason as u8),
         answer => panic!("replay answered {answer:?}, which has no meaning"),
     }
 }
@@ -43,8 +53,8 @@ fn refused_line([number, offset]: [u64; 2]) -> String {
     format!("REFUSED {number} {offset}")
 }
 
-fn stuck_at(step: usize) -> String {
-    format!("STUCK {step}")
+pub(crate) fn stuck_at(step: usize, reason: u8) -> String {
+    format!("STUCK {step} {reason}")
 }
 
 fn case(job: &[u8], schedule: &[u8]) -> Case {
@@ -54,13 +64,14 @@ fn case(job: &[u8], schedule: &[u8]) -> Case {
     }
 }
 
-fn known(job: &[u8], schedule: &[u8], line: &str) -> Known {
+pub(crate) fn known(job: &[u8], schedule: &[u8], line: &str) -> Known {
     (case(job, schedule), line.to_string())
 }
 
 pub fn all() -> Vec<Case> {
     let said = all_known().into_iter().map(|(case, _)| case).collect();
-    [said, changed_found(), each_next_byte(), random_cases()].concat()
+    let random = [random_cases(), reason_cases::random_cases()].concat();
+    [said, changed_found(), random].concat()
 }
 
 /// The cases whose lines a person can say.
@@ -84,6 +95,7 @@ pub fn all_known() -> Vec<Known> {
         to_each_high_place(),
         at_the_last_place(),
         four_long_threads(),
+        reason_cases::all_known(),
     ];
     groups.concat()
 }
@@ -99,6 +111,13 @@ pub fn counts_of_long_threads() -> Counts {
     Counts::new(&classes, &met)
 }
 
+/// How many cases are stuck by each reason under each model, and which of them could be taken for stuck by another.
+pub fn counts_of_reasons() -> Counts {
+    let met = |case: &Case| of_replay(&case.job, &case.schedule);
+    let met: Vec<_> = all().iter().map(met).collect();
+    Counts::new(&of_replays(), &met)
+}
+
 /// The schedules that the bench list names, P11 on each of its jobs.
 fn listed() -> Vec<Known> {
     let jobs = accepted_list();
@@ -109,9 +128,9 @@ fn listed() -> Vec<Known> {
         known(p3, &[0, 0, 1, 1, 0x04, 0x0D], REACHES),
         known(p5, &[0, 0], REACHES),
         known(p6, &[0, 0, 5, 1, 1], REACHES),
-        known(p10, &[0, 0], "STUCK 1"),
+        known(p10, &[0, 0], "STUCK 1 3"),
     ];
-    cases.extend(jobs.iter().map(|job| known(job, &[0x24], "STUCK 0")));
+    cases.extend(jobs.iter().map(|job| known(job, &[0x24], "STUCK 0 1")));
     let refused = refused_line(P12_REFUSAL);
     cases.extend(p12().iter().map(|job| known(job, &[0x24], &refused)));
     cases
@@ -163,11 +182,11 @@ fn beyond_the_last_step() -> Vec<Known> {
         for number in NO_STEPS {
             for at in 0..4 {
                 let schedule = with_byte(&[0, 0, 1, 1], at, number);
-                cases.push(known(job, &schedule, &stuck_at(at)));
+                cases.push(known(job, &schedule, &stuck_at(at, NO_SUCH_STEP)));
                 let more = [&schedule[..], &[255, 36]].concat();
-                cases.push(known(job, &more, &stuck_at(at)));
+                cases.push(known(job, &more, &stuck_at(at, NO_SUCH_STEP)));
             }
-            cases.push(known(job, &[0, 0, 1, 1, number], "STUCK 4"));
+            cases.push(known(job, &[0, 0, 1, 1, number], "STUCK 4 1"));
         }
     }
     cases
@@ -199,15 +218,15 @@ fn instructions() -> Vec<Known> {
             known(&exchange, &[0, 0], REACHES),
             known(&fence, &[0], REACHES),
             known(&jump, &[0], REACHES),
-            known(&jump, &[0, 0], "STUCK 1"),
+            known(&jump, &[0, 0], "STUCK 1 2"),
             known(&own_place, &[0; 300], REACHES),
             known(&jump_taken, &[0], REACHES),
-            known(&jump_taken, &[0, 0], "STUCK 1"),
+            known(&jump_taken, &[0, 0], "STUCK 1 2"),
             known(&not_taken, &[0], REACHES),
-            known(&not_taken, &[0, 0, 0], "STUCK 2"),
+            known(&not_taken, &[0, 0, 0], "STUCK 2 2"),
             known(&jump_back, &[0, 0], REACHES),
-            // The second time round the register is 2.
-            known(&jump_back, &[0, 0, 0, 0, 0], "STUCK 4"),
+            // The second time round the register is 2, so the thread ends.
+            known(&jump_back, &[0, 0, 0, 0, 0], "STUCK 4 2"),
         ]);
     }
     cases
@@ -226,12 +245,12 @@ fn waiting() -> Vec<Known> {
             let goal = [[1, 0, 0, 2]];
             let job = file([model, 2], &[0, 0], &[first, second], 0, &goal);
             cases.extend([
-                known(&job, &[0, 0], "STUCK 1"),
+                known(&job, &[0, 0], "STUCK 1 4"),
                 known(&job, &[0, 4], FALLS_SHORT),
                 known(&job, &[0, 4, 0], REACHES),
                 // Another thread's pending store keeps nobody waiting.
                 known(&job, &[1, 1, 0, 4, 0], REACHES),
-                known(&job, &[1, 1, 0, 0], "STUCK 3"),
+                known(&job, &[1, 1, 0, 0], "STUCK 3 4"),
                 known(&job, &[0, 1, 4, 0], REACHES),
             ]);
         }
@@ -259,9 +278,14 @@ fn full_buffer(model: u8, capacity: u8) -> Vec<Known> {
     let after = |more: &[u8]| [&fill[..], more].concat();
     vec![
         known(&job, &fill, FALLS_SHORT),
-        known(&job, &after(&[0]), &stuck_at(fill.len())),
+        known(&job, &after(&[0]), &stuck_at(fill.len(), BUFFER_FULL)),
         known(&job, &after(&[4, 0]), REACHES),
-        known(&job, &after(&[4, 0, 0]), &stuck_at(fill.len() + 2)),
+        // Full again, but there is no store left that could wait.
+        known(
+            &job,
+            &after(&[4, 0, 0]),
+            &stuck_at(fill.len() + 2, THREAD_ENDED),
+        ),
     ]
 }
 
@@ -278,11 +302,11 @@ fn flushes() -> Vec<Known> {
     let second_only = job(PSO, &two_variables, 0, &[[3, 0, 0, 0], [3, 1, 0, 2]]);
     let mut cases = vec![
         known(&tso, &[0, 0, 4, 5], REACHES),
-        known(&tso, &[0, 0, 5], "STUCK 2"),
+        known(&tso, &[0, 0, 5], "STUCK 2 6"),
         known(&tso, &[0, 0, 4], FALLS_SHORT),
         known(&pso, &[0, 0, 4, 5], REACHES),
         known(&pso, &[0, 0, 5, 4], REACHES),
-        known(&pso, &[0, 0, 5, 5], "STUCK 3"),
+        known(&pso, &[0, 0, 5, 5], "STUCK 3 5"),
         known(&second_only, &[0, 0, 5], REACHES),
         known(&second_only, &[0, 0, 4], FALLS_SHORT),
     ];
@@ -304,7 +328,7 @@ fn flushes() -> Vec<Known> {
             known(&oldest, &[0, 0, 4], REACHES),
             known(&oldest, &[0, 0, 4, 4], FALLS_SHORT),
             known(&newest, &[0, 0, 4, 4], REACHES),
-            known(&newest, &[0, 0, 4, 4, 4], "STUCK 4"),
+            known(&newest, &[0, 0, 4, 4, 4], "STUCK 4 5"),
             known(&own, &[0, 0, 0], REACHES),
             known(&another, &[0, 0, 1], REACHES),
             known(&another, &[0, 0, 4, 1], FALLS_SHORT),
@@ -313,8 +337,8 @@ fn flushes() -> Vec<Known> {
     let straight = job(0, &two_variables, 1, &both);
     cases.extend([
         known(&straight, &[0, 0], REACHES),
-        known(&straight, &[0, 4], "STUCK 1"),
-        known(&straight, &[4], "STUCK 0"),
+        known(&straight, &[0, 4], "STUCK 1 5"),
+        known(&straight, &[4], "STUCK 0 5"),
     ]);
     cases
 }
@@ -335,15 +359,17 @@ fn ended() -> Vec<Known> {
             known(&job, &[0], FALLS_SHORT),
             // An ended thread still flushes.
             known(&job, &[0, 4], REACHES),
-            known(&job, &[0, 0], "STUCK 1"),
-            known(&job, &[0, 4, 0], "STUCK 2"),
-            known(&job, &[0, 4, 4], "STUCK 2"),
-            known(&job, &[1], "STUCK 0"),
-            known(&job, &[0, 1], "STUCK 1"),
+            known(&job, &[0, 0], "STUCK 1 2"),
+            known(&job, &[0, 4, 0], "STUCK 2 2"),
+            known(&job, &[0, 4, 4], "STUCK 2 5"),
+            known(&job, &[1], "STUCK 0 2"),
+            known(&job, &[0, 1], "STUCK 1 2"),
+            // Thread 1 has ended and has nothing to flush to the one variable.
+            known(&job, &[0, 12], "STUCK 1 5"),
         ]);
-        // Threads 2 and 3, and the flushes of all but thread 0.
-        cases.extend([2, 3].map(|step| known(&job, &[0, step], "STUCK 1")));
-        cases.extend((5..36).map(|step| known(&job, &[0, step], "STUCK 1")));
+        // Threads 2 and 3 are absent, and so are all variables but the first.
+        let absent = [2, 3].into_iter().chain(5..12).chain(13..36);
+        cases.extend(absent.map(|step| known(&job, &[0, step], "STUCK 1 1")));
     }
     cases
 }
@@ -362,8 +388,15 @@ fn each_flush_step() -> Vec<Known> {
                 cases.push(known(&job, &[thread], FALLS_SHORT));
                 cases.push(known(&job, &[thread, own], REACHES));
                 // The variables beside it, and the same one of the threads beside; beyond the ends other numbers.
-                let others = [own - 1, own + 1, own.wrapping_sub(8), own + 8];
-                cases.extend(others.map(|step| known(&job, &[thread, step], "STUCK 1")));
+                for step in [own - 1, own + 1, own.wrapping_sub(8), own + 8] {
+                    let reason = match step {
+                        // The other threads have no instructions, and this one has run its only one.
+                        0..=3 => THREAD_ENDED,
+                        4..=35 => NOTHING_TO_FLUSH,
+                        36..=255 => NO_SUCH_STEP,
+                    };
+                    cases.push(known(&job, &[thread, step], &stuck_at(1, reason)));
+                }
             }
         }
     }
@@ -388,14 +421,17 @@ fn endless_count() -> Vec<Known> {
         )
     };
     let steps = vec![0; MOST_STEPS];
-    let stuck = |at, step| known(&job(184), &with_byte(&steps, at, step), &stuck_at(at));
+    let stuck = |at, step, reason| {
+        let schedule = with_byte(&steps, at, step);
+        known(&job(184), &schedule, &stuck_at(at, reason))
+    };
     vec![
         known(&job(184), &steps, REACHES),
         known(&job(184), &steps[1..], FALLS_SHORT),
         known(&job(0), &steps[..65_536], REACHES),
         // Thread 1 has no instructions; 255 is no step.
-        stuck(65_536, 1),
-        stuck(69_999, 255),
+        stuck(65_536, 1, THREAD_ENDED),
+        stuck(69_999, 255, NO_SUCH_STEP),
     ]
 }
 
@@ -413,7 +449,11 @@ fn endless_stores() -> Vec<Known> {
     vec![
         known(&job, &steps, REACHES),
         // The buffer is empty before the store of this turn.
-        known(&job, &with_byte(&steps, 65_537, 5)[..65_540], "STUCK 65537"),
+        known(
+            &job,
+            &with_byte(&steps, 65_537, 5)[..65_540],
+            "STUCK 65537 5",
+        ),
     ]
 }
 
@@ -432,7 +472,7 @@ fn late_end() -> Vec<Known> {
     vec![
         known(&job, &steps[..66_219], REACHES),
         known(&job, &steps[..66_218], FALLS_SHORT),
-        known(&job, &steps, "STUCK 66219"),
+        known(&job, &steps, "STUCK 66219 2"),
     ]
 }
 
@@ -458,7 +498,7 @@ fn found() -> Vec<Known> {
         cases.push(known(
             &job,
             &[&schedule[..], &[36]].concat(),
-            &stuck_at(schedule.len()),
+            &stuck_at(schedule.len(), NO_SUCH_STEP),
         ));
     }
     cases
@@ -480,23 +520,6 @@ fn changed_found() -> Vec<Case> {
             cases.push(case(&job, &[before, &[step], rest].concat()));
         }
         cases.extend(OTHER_STEPS.map(|step| case(&job, &[&schedule[..], &[step]].concat())));
-    }
-    cases
-}
-
-/// Each byte as the next step, where all threads have executed once.
-fn each_next_byte() -> Vec<Case> {
-    let mut cases = Vec::new();
-    let programs: Vec<_> = [[0, 1], [7, 6], [3, 3], [5, 0]]
-        .map(|[first, second]| vec![[5, 0, first, 1], [5, 0, second, 2]])
-        .to_vec();
-    // No thread changes a register, so every schedule that isn't stuck reaches the goal.
-    let goal = [[2, 0, 0, 0]];
-    for memory in [SC, [TSO, 1], [PSO, 2]] {
-        let job = file(memory, &[0; 8], &programs, 0, &goal);
-        for byte in 0..=255 {
-            cases.push(case(&job, &[0, 1, 2, 3, byte]));
-        }
     }
     cases
 }
@@ -537,7 +560,7 @@ fn to_each_long_end() -> Vec<Known> {
         cases.extend([
             known(&walked, &steps[..count], REACHES),
             known(&walked, &steps[..count - 1], FALLS_SHORT),
-            known(&walked, &steps, &stuck_at(count)),
+            known(&walked, &steps, &stuck_at(count, THREAD_ENDED)),
         ]);
         for jump in [[9, 0, n, 0], [8, 0, n, 0]] {
             let mut program = program.clone();
@@ -545,7 +568,7 @@ fn to_each_long_end() -> Vec<Known> {
             let jumped = job(&program, 0);
             cases.extend([
                 known(&jumped, &[0], REACHES),
-                known(&jumped, &[0, 0], "STUCK 1"),
+                known(&jumped, &[0, 0], "STUCK 1 2"),
             ]);
         }
     }
@@ -592,12 +615,16 @@ fn at_the_last_place() -> Vec<Known> {
         let not_taken = job(&[[8, 1, 0, n]], 1, &[[1, 0, 0, n]]);
         cases.extend([
             known(&load, &then(ended, &[]), REACHES),
-            known(&load, &then(ended, &[0]), &stuck_at(ended)),
+            known(&load, &then(ended, &[0]), &stuck_at(ended, THREAD_ENDED)),
             known(&jump, &then(ended, &[]), REACHES),
             known(&jump, &then(ended, &[0]), FALLS_SHORT),
             known(&jump_taken, &then(ended, &[]), REACHES),
             known(&not_taken, &then(ended, &[]), REACHES),
-            known(&not_taken, &then(ended, &[0]), &stuck_at(ended)),
+            known(
+                &not_taken,
+                &then(ended, &[0]),
+                &stuck_at(ended, THREAD_ENDED),
+            ),
         ]);
         if memory == SC {
             continue;
@@ -608,15 +635,27 @@ fn at_the_last_place() -> Vec<Known> {
         cases.extend([
             known(&stores, &then(ended, &[]), FALLS_SHORT),
             known(&stores, &then(ended, &[4]), REACHES),
-            known(&stores, &then(ended, &[4, 4]), &stuck_at(ended + 1)),
-            known(&stores, &then(ended, &[4, 0]), &stuck_at(ended + 1)),
+            known(
+                &stores,
+                &then(ended, &[4, 4]),
+                &stuck_at(ended + 1, NOTHING_TO_FLUSH),
+            ),
+            known(
+                &stores,
+                &then(ended, &[4, 0]),
+                &stuck_at(ended + 1, THREAD_ENDED),
+            ),
         ]);
         for waits in [fence, exchange] {
             cases.extend([
-                known(&waits, &then(last, &[0]), &stuck_at(last)),
+                known(&waits, &then(last, &[0]), &stuck_at(last, BUFFER_NOT_EMPTY)),
                 known(&waits, &then(last, &[4]), FALLS_SHORT),
                 known(&waits, &then(last, &[4, 0]), REACHES),
-                known(&waits, &then(last, &[4, 0, 0]), &stuck_at(ended + 1)),
+                known(
+                    &waits,
+                    &then(last, &[4, 0, 0]),
+                    &stuck_at(ended + 1, THREAD_ENDED),
+                ),
             ]);
         }
     }
@@ -640,7 +679,7 @@ fn four_long_threads() -> Vec<Known> {
         cases.push(known(&job, &steps[..steps.len() - 1], FALLS_SHORT));
         for thread in 0..4 {
             let beyond = [&steps[..], &[thread]].concat();
-            cases.push(known(&job, &beyond, &stuck_at(steps.len())));
+            cases.push(known(&job, &beyond, &stuck_at(steps.len(), THREAD_ENDED)));
         }
     }
     cases

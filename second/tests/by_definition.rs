@@ -3,13 +3,15 @@
 mod common;
 use common::*;
 use second::job::{Instruction, Job};
-use second::machine::{successors, State};
+use second::machine::{step, successors, State};
 use second::random::{sound_job, Random};
 use second::{decode, fences};
 use std::collections::HashMap;
 
 const MOST_STEPS: usize = 8;
 const MOST_SCHEDULES: usize = 5_000;
+/// No greater number is a step.
+const LAST_STEP: u8 = 35;
 
 /// All schedules of 0, 1, 2, ... steps, each length in order, as far as is affordable.
 fn all_schedules(job: &Job) -> Vec<Vec<(Vec<u8>, State)>> {
@@ -17,8 +19,10 @@ fn all_schedules(job: &Job) -> Vec<Vec<(Vec<u8>, State)>> {
     while lengths.len() <= MOST_STEPS && lengths[lengths.len() - 1].len() <= MOST_SCHEDULES {
         let mut longer = Vec::new();
         for (schedule, state) in &lengths[lengths.len() - 1] {
-            for (step, next) in successors(job, state) {
-                longer.push(([&schedule[..], &[step]].concat(), next));
+            for number in 0..=LAST_STEP {
+                if let Ok(next) = step(job, state, number) {
+                    longer.push(([&schedule[..], &[number]].concat(), next));
+                }
             }
         }
         lengths.push(longer);

@@ -8,9 +8,10 @@ use second::long_threads::{
     of_fence_check, of_job, HELD_HIGH, OF_FENCE_CHECKS, OF_JOBS, ONE_TOO_MANY,
 };
 use second::random::{
-    buffer_sizes, case, damaged_job, random_bytes, replay_schedule, sound_job, Random,
+    buffer_sizes, case, damaged_job, random_bytes, replay_schedule, sound_job, stuck_schedule,
+    Random,
 };
-use second::{dead_code, decode, replay};
+use second::{dead_code, decode, reason_cases, reasons, replay};
 use std::collections::BTreeSet;
 
 #[test]
@@ -174,12 +175,41 @@ fn sizes_hit_the_edges_of_n() {
 fn schedules_give_all_replay_answers() {
     let mut random = Random::new(8);
     let (mut kinds, mut steps) = ([0; 4], BTreeSet::new());
+    let mut stuck = Vec::new();
     for _ in 0..2_000 {
         let bytes = sound_job(&mut random);
         let schedule = replay_schedule(&mut random, &bytes);
         kinds[replay(&bytes, &schedule)[0] as usize] += 1;
+        stuck.push(reasons::of_replay(&bytes, &schedule));
         steps.extend(schedule);
     }
     assert!(kinds[1..].iter().all(|&count| count > 200), "{kinds:?}");
     assert!([36, 63, 64, 255].iter().all(|step| steps.contains(step)));
+    assert_each_reason(&stuck, 5);
+}
+
+#[test]
+fn stuck_schedules_are_stuck_at_their_last_step_by_every_reason() {
+    let mut random = Random::new(14);
+    for make in [sound_job, reason_cases::random_job] {
+        let mut stuck = Vec::new();
+        for _ in 0..2_000 {
+            let bytes = make(&mut random);
+            let schedule = stuck_schedule(&mut random, &bytes);
+            let last = schedule.len() as u64 - 1;
+            assert_eq!(replay(&bytes, &schedule)[..2], [3, last]);
+            stuck.push(reasons::of_replay(&bytes, &schedule));
+        }
+        assert_each_reason(&stuck, 30);
+    }
+    assert_eq!(stuck_schedule(&mut random, &[]), []);
+}
+
+/// `stuck` holds the classes of each replay.
+fn assert_each_reason(stuck: &[Vec<&'static str>], least: usize) {
+    for (class, count) in Counts::new(&reasons::STUCK.concat(), stuck).of_classes {
+        let comes_up = !reasons::NEVER.contains(&class);
+        assert!(!comes_up || count >= least, "only {count} of {class}");
+        assert!(comes_up || count == 0, "{count} of {class}");
+    }
 }

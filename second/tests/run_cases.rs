@@ -14,6 +14,11 @@ use second::long_threads::{
 };
 use second::machine::SLOT_BYTES;
 use second::random::Sizes;
+use second::reasons::{
+    ABOVE_35, ABSENT_THREAD, ABSENT_THREAD_FLUSH, ABSENT_VARIABLE, BARRIER_AT_FULL, BOTH_ABSENT,
+    ENDED_AT_FULL, FLUSH_BESIDE, FLUSH_OF_ENDED, FLUSH_OF_WAITING, NEVER, OTHER_STATE_BEFORE,
+    STUCK,
+};
 use second::{decode, fence_cases, job_cases, replay_cases, search_cases};
 use std::collections::{BTreeMap, BTreeSet};
 
@@ -180,6 +185,51 @@ fn dead_code_is_often_enough_among_the_fence_cases() {
     );
 }
 
+/// As for long threads.
+#[test]
+fn every_reason_is_often_enough_among_the_replay_cases_of_each_model() {
+    let [sc, tso, pso] = STUCK;
+    let counts = replay_cases::counts_of_reasons();
+    let impossible = |class: &(&str, usize)| NEVER.contains(&class.0);
+    let mut never = counts.of_classes.iter().copied().filter(impossible);
+    assert!(never.all(|(_, count)| count == 0), "{counts:?}");
+    assert_counts(
+        counts,
+        11_000,
+        &[
+            (sc[0], 1_700),
+            (sc[1], 100),
+            (sc[2], 0),
+            (sc[3], 0),
+            (sc[4], 250),
+            (sc[5], 0),
+            (tso[0], 2_300),
+            (tso[1], 220),
+            (tso[2], 70),
+            (tso[3], 80),
+            (tso[4], 600),
+            (tso[5], 70),
+            (pso[0], 2_200),
+            (pso[1], 280),
+            (pso[2], 70),
+            (pso[3], 80),
+            (pso[4], 700),
+            (pso[5], 0),
+            (ABOVE_35, 5_000),
+            (ABSENT_THREAD, 400),
+            (ABSENT_THREAD_FLUSH, 300),
+            (ABSENT_VARIABLE, 450),
+            (BOTH_ABSENT, 190),
+            (ENDED_AT_FULL, 100),
+            (BARRIER_AT_FULL, 80),
+            (FLUSH_OF_ENDED, 700),
+            (FLUSH_OF_WAITING, 190),
+            (FLUSH_BESIDE, 550),
+            (OTHER_STATE_BEFORE, 30),
+        ],
+    );
+}
+
 fn assert_counts(counts: Counts, cases: usize, least: &[(&str, usize)]) {
     assert!(counts.cases >= cases, "{counts:?}");
     assert_eq!(counts.of_classes.len(), least.len(), "{counts:?}");
@@ -264,13 +314,17 @@ fn the_longest_ways_are_searched_as_a_person_says() {
     }
 }
 
-/// How often each line's first words and each refusal's number come up.
+/// How often each line's first word, each refusal's number and each reason come up.
 fn kinds(lines: impl Iterator<Item = String>) -> BTreeMap<String, usize> {
     let mut kinds = BTreeMap::new();
     for line in lines {
         let words: Vec<&str> = line.split(' ').collect();
-        let kept = if words[0] == "REFUSED" { 2 } else { 1 };
-        *kinds.entry(words[..kept].join(" ")).or_default() += 1;
+        let kind = match words[..] {
+            ["REFUSED", number, _] => format!("REFUSED {number}"),
+            ["STUCK", _, reason] => format!("STUCK BY {reason}"),
+            _ => words[0].to_string(),
+        };
+        *kinds.entry(kind).or_default() += 1;
     }
     kinds
 }
@@ -281,6 +335,15 @@ fn assert_each(kinds: &BTreeMap<String, usize>, wanted: &[&str], least: usize) {
         assert!(count >= least, "{kind} only {count} times in {kinds:?}");
     }
 }
+
+const STUCK_BY: [&str; 6] = [
+    "STUCK BY 1",
+    "STUCK BY 2",
+    "STUCK BY 3",
+    "STUCK BY 4",
+    "STUCK BY 5",
+    "STUCK BY 6",
+];
 
 const REFUSALS: [&str; 6] = [
     "REFUSED 1",
@@ -295,8 +358,10 @@ const REFUSALS: [&str; 6] = [
 fn replay_cases_give_every_answer_in_the_room_there_is() {
     let cases = replay_cases::all();
     let kinds = kinds(cases.iter().map(replay_cases::line));
-    assert_each(&kinds, &["REACHES", "FALLS", "STUCK"], 300);
+    assert_each(&kinds, &["REACHES", "FALLS"], 300);
+    assert_each(&kinds, &STUCK_BY, 50);
     assert_each(&kinds, &REFUSALS, 5);
+    assert_eq!(kinds.len(), 2 + STUCK_BY.len() + REFUSALS.len());
     assert!(cases.iter().all(|case| case.job.len() <= ROOM_FOR_JOB));
     let lengths: BTreeSet<usize> = cases.iter().map(|case| case.schedule.len()).collect();
     assert_eq!(lengths.iter().next_back(), Some(&replay_cases::MOST_STEPS));

@@ -140,7 +140,7 @@ fn a_load_takes_the_newest_own_store_and_no_other_threads_store() {
 fn exchange_waits_for_the_own_buffer_and_swaps_with_memory() {
     let program = [[1, 3, 0, 4], [5, 0, 0, 8], [7, 3, 0, 0]];
     let bytes = job(tso(1), &[1], &[&program], 1, &[[2, 0, 3, 8], [3, 0, 0, 4]]);
-    assert_eq!(second::replay(&bytes, &[0, 0, 0]), [3, 2, 0, 0]);
+    assert_eq!(second::replay(&bytes, &[0, 0, 0]), [3, 2, 4, 0]);
     assert_eq!(second::replay(&bytes, &[0, 0, 4, 0]), [1, 0, 0, 0]);
     let run = run(&bytes, 20);
     assert_eq!(run.answer, [1, 4, 5, 0]);

@@ -33,6 +33,12 @@ static const uint8_t P9[] = {0x00, 0x33, 0x01, 0x01, 0x01, 0x02, 0x02, 0x00, 0x0
                              0x03, 0x00, 0x01, 0x00, 0x03, 0x05, 0x00, 0x01, 0x01, 0x06, 0x00, 0x00, 0x00, 0x03, 0x00, 0x00, 0x00, 0x00,
                              0x04, 0x01, 0x00, 0x00, 0x03, 0x01, 0x01, 0x00, 0x03, 0x02, 0x00, 0x00, 0x00, 0x02, 0x01, 0x00, 0x00};
 
+/* TSO, C 2, T 3, V 2: thread 0 stores to x, y and x, thread 1 stores to x and comes to a FENCE, thread 2 has no instructions; goal place 0
+ * of thread 0. With 7 at BARRIER the FENCE is an XCHG of register 0 and x. */
+static const uint8_t THREE[] = {0x00, 0x24, 0x01, 0x01, 0x02, 0x03, 0x02, 0x00, 0x00, 0x03, 0x05, 0x00, 0x00, 0x01, 0x05, 0x00, 0x01, 0x01, 0x05,
+                                0x00, 0x00, 0x01, 0x02, 0x05, 0x00, 0x00, 0x01, 0x06, 0x00, 0x00, 0x00, 0x00, 0x00, 0x01, 0x01, 0x00, 0x00, 0x00};
+enum { BARRIER = 27, SC = 0, TSO = 1, PSO = 2 };
+
 /* jobs/parked-store-sc: in thread 0 a JMP leads past a store and a load; its last JMP goes to place 5, and with 1 at BACK to the store. */
 static const uint8_t PARKED[] = {0x00, 0x57, 0x01, 0x00, 0x00, 0x02, 0x02, 0x00, 0x00, 0x0B, 0x09, 0x00, 0x05, 0x00, 0x05, 0x00, 0x00, 0x01,
                                  0x03, 0x00, 0x01, 0x00, 0x08, 0x00, 0x02, 0x01, 0x09, 0x00, 0x09, 0x00, 0x05, 0x00, 0x00, 0x01, 0x06, 0x00,
@@ -202,11 +208,139 @@ static void replays(void) {
     replay(P1, sizeof P1, found, 3, answer);
     CHECK(answer_is(answer, 2, 0, 0, 0));
     replay(P10, sizeof P10, twice, sizeof twice, answer);
-    CHECK(answer_is(answer, 3, 1, 0, 0));
+    CHECK(answer_is(answer, 3, 1, 3, 0));
+    replay(P10, sizeof P10, never, sizeof never, answer);
+    CHECK(answer_is(answer, 3, 0, 1, 0));
     replay(P1, sizeof P1, never, sizeof never, answer);
-    CHECK(answer_is(answer, 3, 0, 0, 0));
+    CHECK(answer_is(answer, 3, 0, 1, 0));
     replay(P1, sizeof P1, above, sizeof above, answer);
-    CHECK(answer_is(answer, 3, 0, 0, 0));
+    CHECK(answer_is(answer, 3, 0, 1, 0));
+}
+
+/* What stands at BARRIER in THREE: 6 FENCE or 7 XCHG. */
+static uint8_t barrier;
+
+/* Whether a replay of THREE under this model and C, by steps in hex, answers a, b, c, 0. */
+static int three(uint8_t model, uint8_t capacity, const char *hex, uint64_t a, uint64_t b, uint64_t c) {
+    uint8_t job[sizeof THREE], steps[16];
+    uint64_t answer[4];
+    size_t count = 0;
+    char *end;
+    memcpy(job, THREE, sizeof THREE);
+    job[MODEL] = model, job[CAPACITY] = capacity, job[BARRIER] = barrier;
+    for (; *hex != 0; hex = end) steps[count++] = (uint8_t)strtoul(hex, &end, 16);
+    replay(job, sizeof job, steps, count, answer);
+    return answer_is(answer, a, b, c, 0);
+}
+
+/* Each reason under each model where it can come up. Thread t executes by t and flushes its store to v by 4 + 8t + v: thread 0 by 04 and 05,
+ * thread 1 by 0C and 0D, thread 2 by 14 and 15. */
+static void reasons(void) {
+    const uint8_t models[3][2] = {{SC, 0}, {TSO, 2}, {PSO, 2}};
+    for (size_t k = 0; k < 3; k++) {
+        const uint8_t model = models[k][0], capacity = models[k][1];
+        /* 1: above 35; thread 3 to execute and to flush; variable 2 and variable 7 of threads 0 to 2. */
+        CHECK(three(model, capacity, "24", 3, 0, 1));
+        CHECK(three(model, capacity, "40", 3, 0, 1));
+        CHECK(three(model, capacity, "FF", 3, 0, 1));
+        CHECK(three(model, capacity, "03", 3, 0, 1));
+        CHECK(three(model, capacity, "1C", 3, 0, 1));
+        CHECK(three(model, capacity, "06", 3, 0, 1));
+        CHECK(three(model, capacity, "0B", 3, 0, 1));
+        CHECK(three(model, capacity, "0E", 3, 0, 1));
+        CHECK(three(model, capacity, "1B", 3, 0, 1));
+        CHECK(three(model, capacity, "00 01 00 24", 3, 3, 1));
+        /* 2: thread 2 is at its end from the start. */
+        CHECK(three(model, capacity, "02", 3, 0, 2));
+        CHECK(three(model, capacity, "00 01 02 00", 3, 2, 2));
+        /* 5: nothing has been stored; then thread 0 has stored to x, but not to y, and the others have not. */
+        CHECK(three(model, capacity, "04", 3, 0, 5));
+        CHECK(three(model, capacity, "00 05", 3, 1, 5));
+        CHECK(three(model, capacity, "00 0C", 3, 1, 5));
+        CHECK(three(model, capacity, "00 14", 3, 1, 5));
+    }
+    /* SC: nothing waits, so 2 comes behind three steps of thread 0 and behind two of thread 1. No store is ever pending. */
+    CHECK(three(SC, 0, "00 00 00", 2, 0, 0));
+    CHECK(three(SC, 0, "00 00 00 00", 3, 3, 2));
+    CHECK(three(SC, 0, "01 01", 1, 0, 0));
+    CHECK(three(SC, 0, "01 01 01", 3, 2, 2));
+    CHECK(three(SC, 0, "00 04", 3, 1, 5));
+    for (uint8_t model = TSO; model <= PSO; model++) {
+        /* 2: thread 1 has flushed and gone past its barrier. */
+        CHECK(three(model, 2, "01 0C 01 01", 3, 3, 2));
+        /* 3: the third store at C 2 and the second at C 1, unless one is flushed before. */
+        CHECK(three(model, 2, "00 00 00", 3, 2, 3));
+        CHECK(three(model, 2, "00 00 04 00", 2, 0, 0));
+        CHECK(three(model, 1, "00 00", 3, 1, 3));
+        CHECK(three(model, 3, "00 00 00", 2, 0, 0));
+        /* 4: thread 1 has its own store pending; what thread 0 has makes no difference. */
+        CHECK(three(model, 2, "01 01", 3, 1, 4));
+        CHECK(three(model, 2, "01 0C 01", 1, 0, 0));
+        CHECK(three(model, 2, "00 01 0C 01", 2, 0, 0));
+        /* 5: it was flushed before. */
+        CHECK(three(model, 2, "00 04", 2, 0, 0));
+        CHECK(three(model, 2, "00 04 04", 3, 2, 5));
+    }
+    /* 6: y is behind x, until x is flushed; then x is behind y. PSO flushes either. */
+    CHECK(three(TSO, 2, "00 00 05", 3, 2, 6));
+    CHECK(three(TSO, 2, "00 00 04 05", 2, 0, 0));
+    CHECK(three(TSO, 2, "00 00 04 00 04", 3, 4, 6));
+    CHECK(three(PSO, 2, "00 00 05", 2, 0, 0));
+    CHECK(three(PSO, 2, "00 00 04 00 04", 2, 0, 0));
+}
+
+/* Where two reasons could apply, the first of them is given. */
+static void pairs_of_reasons(void) {
+    const uint8_t models[3][2] = {{SC, 0}, {TSO, 2}, {PSO, 2}};
+    for (size_t k = 0; k < 3; k++) {
+        const uint8_t model = models[k][0], capacity = models[k][1];
+        /* Thread 3 is absent and thread 2 has ended: neither has an instruction left. */
+        CHECK(three(model, capacity, "03", 3, 0, 1));
+        CHECK(three(model, capacity, "02", 3, 0, 2));
+        /* Nothing is pending of thread 3, nor to variable 2, nor to variables 2 and 7 of thread 3: no such step. To y of thread 2 there is. */
+        CHECK(three(model, capacity, "00 1D", 3, 1, 1));
+        CHECK(three(model, capacity, "00 06", 3, 1, 1));
+        CHECK(three(model, capacity, "00 1E", 3, 1, 1));
+        CHECK(three(model, capacity, "00 23", 3, 1, 1));
+        CHECK(three(model, capacity, "00 15", 3, 1, 5));
+        /* A flush of an ended thread, to a variable that is there and to one that isn't. */
+        CHECK(three(model, capacity, "14", 3, 0, 5));
+        CHECK(three(model, capacity, "16", 3, 0, 1));
+    }
+    /* SC: a flush below T and V is a step, but there is nothing to flush, of a thread that has stored and of one that has ended. */
+    CHECK(three(SC, 0, "00 00 04", 3, 2, 5));
+    CHECK(three(SC, 0, "00 00 05", 3, 2, 5));
+    CHECK(three(SC, 0, "00 00 00 04", 3, 3, 5));
+    CHECK(three(SC, 0, "00 00 00 05", 3, 3, 5));
+    CHECK(three(SC, 0, "00 00 00 06", 3, 3, 1));
+    /* TSO: to y nothing is pending, nothing but a store to x, one behind that, and one that is the oldest. */
+    CHECK(three(TSO, 3, "05", 3, 0, 5));
+    CHECK(three(TSO, 3, "00 05", 3, 1, 5));
+    CHECK(three(TSO, 3, "00 00 05", 3, 2, 6));
+    CHECK(three(TSO, 3, "00 00 04 05", 2, 0, 0));
+    /* Thread 0 has ended with x, y and x pending: to x there is the oldest, and once that is flushed there is one behind y. */
+    CHECK(three(TSO, 3, "00 00 00 04", 2, 0, 0));
+    CHECK(three(TSO, 3, "00 00 00 05", 3, 3, 6));
+    CHECK(three(TSO, 3, "00 00 00 04 04", 3, 4, 6));
+    CHECK(three(TSO, 3, "00 00 00 04 05 05", 3, 5, 5));
+    CHECK(three(PSO, 3, "00 00 00 05", 2, 0, 0));
+    CHECK(three(PSO, 3, "00 00 00 05 05", 3, 4, 5));
+    CHECK(three(PSO, 3, "00 00 00 04 04", 2, 0, 0));
+    for (uint8_t model = TSO; model <= PSO; model++) {
+        /* A buffer that is full, and so not empty, at a store, at a barrier and at the end. */
+        CHECK(three(model, 2, "00 00 00", 3, 2, 3));
+        CHECK(three(model, 1, "01 01", 3, 1, 4));
+        CHECK(three(model, 3, "00 00 00 00", 3, 3, 2));
+        /* Thread 0 waits for room, thread 1 at its barrier, thread 0 has ended and has flushed all: their flushes have nothing to flush. */
+        CHECK(three(model, 1, "00 05", 3, 1, 5));
+        CHECK(three(model, 1, "01 0D", 3, 1, 5));
+        CHECK(three(model, 3, "00 00 00 04 05 04 04", 3, 6, 5));
+    }
+    /* Of two that can't be taken the first decides, in the state that it is to be taken in. */
+    CHECK(three(TSO, 2, "03 02", 3, 0, 1));
+    CHECK(three(TSO, 2, "02 03", 3, 0, 2));
+    CHECK(three(TSO, 2, "00 00 05 00", 3, 2, 6));
+    CHECK(three(TSO, 2, "00 00 00 05", 3, 2, 3));
 }
 
 static void fence_checks(void) {
@@ -353,7 +487,14 @@ static void long_threads(void) {
     replay(job, FILE_SIZE, steps, LONGEST - 1, answer);
     CHECK(answer_is(answer, 2, 0, 0, 0));
     replay(job, FILE_SIZE, steps, LONGEST + 1, answer);
-    CHECK(answer_is(answer, 3, LONGEST, 0, 0));
+    CHECK(answer_is(answer, 3, LONGEST, 2, 0));
+    /* The last of all steps is there, with nothing to flush; the number behind it is none. */
+    steps[0] = 35;
+    replay(job, FILE_SIZE, steps, 1, answer);
+    CHECK(answer_is(answer, 3, 0, 5, 0));
+    steps[0] = 36;
+    replay(job, FILE_SIZE, steps, 1, answer);
+    CHECK(answer_is(answer, 3, 0, 1, 0));
     clause[3] = LONGEST + 1;
     refused(job, FILE_SIZE, 5, (uint64_t)(clause - job));
     make_longest(job);
@@ -405,6 +546,10 @@ int main(void) {
         p1_by_slots();
         p2_and_p3();
         replays();
+        for (barrier = 6; barrier <= 7; barrier++) {
+            reasons();
+            pairs_of_reasons();
+        }
         fence_checks();
         dead_code();
         refusals();

@@ -92,7 +92,7 @@ fn compare(plan: Plan) -> ExitCode {
     let too_plain = whole_run && !empty.is_empty();
     if too_plain {
         println!(
-            "NEVER MET: {}; the jobs of this run are too much of one kind, see compare/src/jobs.rs",
+            "NEVER MET: {}; the jobs or schedules of this run are too much of one kind, see jobs.rs and schedules.rs in compare/src",
             empty.join("; ")
         );
     }

@@ -1,9 +1,12 @@
 // A flush: whether it may be taken, and the store that it takes from a buffer.
 use crate::Buf;
 use crate::Taken;
+use rules::May;
 use rules::Model;
+use rules::Reason;
 ghost use mathlib.Core.Path.{_≡_};
 ghost use Rattle.rules.specs.Step as rules;
+ghost use Rattle.rules.specs.declared.Model.the-variants.{Tso};
 ghost use Rattle.buffer.specs.Held.{held-buffer, BufferOk};
 ghost use Rattle.buffer.specs.Places.{first, is-to};
 ghost use Rattle.buffer.specs.Posts.{Takes};
@@ -41,15 +44,29 @@ fn is_pending_to(b: Buf, v: u8) -> bool
     first_to(b, v) < n
 }
 
-// Whether a store may be flushed to v: under TSO the oldest alone, under PSO the oldest to each variable; SC has no flush.
-pub fn may_flush(m: Model, b: Buf, v: u8) -> bool
+// Under TSO only the oldest store may be flushed: where there is one to v behind it, that is not the oldest.
+fn may_flush_oldest(b: Buf, v: u8) -> May
+    requires { ⌜ BufferOk b ⌝ }
+    ensures { λ r. ⌜ r ≡ rules.may-flush Tso v (held-buffer b) ⌝ }
+{
+    if is_oldest_to(b, v) {
+        return May::Yes;
+    }
+    if is_pending_to(b, v) {
+        return May::No(Reason::NotTheOldest);
+    }
+    May::No(Reason::NothingToFlush)
+}
+
+// Whether a store may be flushed to v, and why not: under TSO the oldest alone, under PSO the oldest to each variable; SC has no flush.
+pub fn may_flush(m: Model, b: Buf, v: u8) -> May
     requires { ⌜ BufferOk b ⌝ }
     ensures { λ r. ⌜ r ≡ rules.may-flush m v (held-buffer b) ⌝ }
 {
     match m {
-        Model::Sc => false,
-        Model::Tso => is_oldest_to(b, v),
-        Model::Pso => is_pending_to(b, v),
+        Model::Sc => May::No(Reason::NothingToFlush),
+        Model::Tso => may_flush_oldest(b, v),
+        Model::Pso => reasons::needs(is_pending_to(b, v), Reason::NothingToFlush),
     }
 }
 

@@ -6,26 +6,27 @@ use rules::ALL_REGISTERS;
 use rules::Clause;
 use rules::MOST_THREADS;
 use rules::MOST_VARIABLES;
+use rules::May;
 use rules::Model;
-use rules::STEP_BOUND;
+use rules::Reason;
 use rules::THREADS;
 use rules::VARIABLES;
 use state::State;
 use tables::ClauseRead;
 ghost use mathlib.Core.Path.{_≡_};
-ghost use mathlib.Core.Bool.{true};
-ghost use Prim.Native.Nat.{_+_, _*_, _^_, _<_};
+ghost use Prim.Native.Nat.{_+_, _*_, _^_, _≤_, _<_};
 ghost use Rattle.rules.specs.Limits.{most-threads, most-variables};
 ghost use Rattle.rules.specs.State as states;
 ghost use Rattle.rules.specs.Job as jobs;
 ghost use Rattle.rules.specs.Step as steps;
+ghost use Rattle.rules.specs.declared.May.the-variants.{Yes};
 ghost use Rattle.rules.specs.Goal as goals;
 ghost use Rattle.rules.specs.File.{job-of};
 ghost use Rattle.job.specs.Laid.{IsAccepted};
 ghost use Rattle.buffer.specs.Held.{BufferOk, held-buffer};
 ghost use Rattle.state.specs.Held.{StateOk, held};
 ghost use Rattle.state.specs.Parts.{Holds};
-ghost use Rattle.engine.specs.At.{At, ClauseOk, Memory, may-execute-at};
+ghost use Rattle.engine.specs.At.{At, ClauseOk, Memory, FlushesOf, may-execute-at};
 
 // The job's initial values, and 0 for the variables that it doesn't have.
 fn memory(job: &[u8], l: Layout) -> [u8; VARIABLES]
@@ -56,8 +57,8 @@ pub fn start(job: &[u8], l: Layout) -> State
     }
 }
 
-// Whether a thread t that is at this place, with these stores pending, may execute: one that has ended may not.
-fn may_execute(job: &[u8], l: Layout, t: u8, place: u8, own: Buf) -> bool
+// Whether a thread t of the job that is at this place, with these stores pending, may execute, and why not.
+fn may_execute(job: &[u8], l: Layout, t: u8, place: u8, own: Buf) -> May
     requires { ⌜ IsAccepted (now job) l ⌝ }
     requires { ⌜ BufferOk own ⌝ }
     ensures { λ r. ⌜ r ≡ may-execute-at (job-of (now (job .entry))) t place (held-buffer own) ⌝ }
@@ -67,32 +68,38 @@ fn may_execute(job: &[u8], l: Layout, t: u8, place: u8, own: Buf) -> bool
     let capacity = l.capacity;
     match read {
         PlaceRead::Holds(i) => machine::may_execute(i, model, capacity, own),
-        PlaceRead::Ended => false,
+        PlaceRead::Ended => May::No(Reason::ThreadEnded),
     }
 }
 
-// Whether step s may be taken; no number from 36 up is a step.
-pub fn may(job: &[u8], l: Layout, x: State, s: u8) -> bool
+// Whether step s may be taken, and why not. Threads from T up, variables from V up and numbers from 36 up have no step.
+pub fn may(job: &[u8], l: Layout, x: State, s: u8) -> May
     requires { ⌜ At (now job) l x ⌝ }
     ensures { λ r. ⌜ r ≡ steps.may (job-of (now (job .entry))) s (held x) ⌝ }
 {
-    if s < MOST_THREADS {
+    if s < l.threads {
         return may_execute(job, l, s, state::place(x, s), state::buffer(x, s));
     }
-    if s < STEP_BOUND {
+    if MOST_THREADS <= s {
+        // From 36 up this is no thread of any job.
         let flush = s - MOST_THREADS;
-        let model = l.model;
-        let pending = state::buffer(x, flush / MOST_VARIABLES);
-        return buffer::flush::may_flush(model, pending, flush % MOST_VARIABLES);
+        let t = flush / MOST_VARIABLES;
+        let v = flush % MOST_VARIABLES;
+        if t < l.threads {
+            if v < l.vars {
+                let model = l.model;
+                return buffer::flush::may_flush(model, state::buffer(x, t), v);
+            }
+        }
     }
-    false
+    May::No(Reason::NoSuchStep)
 }
 
 // One instruction of thread t, which may execute.
 fn execute(job: &[u8], l: Layout, x: State, t: u8) -> State
     requires { ⌜ At (now job) l x ⌝ }
     requires { ⌜ t < most-threads ⌝ }
-    requires { ⌜ steps.may (job-of (now job)) t (held x) ≡ true ⌝ }
+    requires { ⌜ steps.may (job-of (now job)) t (held x) ≡ Yes ⌝ }
     ensures { λ r. ⌜ Holds r (steps.after (job-of (now (job .entry))) t (held x)) ⌝ }
 {
     let at = state::place(x, t);
@@ -107,7 +114,7 @@ fn execute(job: &[u8], l: Layout, x: State, t: u8) -> State
 // The state after step s, which may be taken.
 pub fn take(job: &[u8], l: Layout, x: State, s: u8) -> State
     requires { ⌜ At (now job) l x ⌝ }
-    requires { ⌜ steps.may (job-of (now job)) s (held x) ≡ true ⌝ }
+    requires { ⌜ steps.may (job-of (now job)) s (held x) ≡ Yes ⌝ }
     ensures { λ r. ⌜ Holds r (steps.after (job-of (now (job .entry))) s (held x)) ⌝ }
 {
     if s < MOST_THREADS {
@@ -122,25 +129,27 @@ fn executes(job: &[u8], l: Layout, x: State) -> u64
     requires { ⌜ At (now job) l x ⌝ }
     ensures { λ r. ⌜ r ≡ steps.enabled-below (job-of (now (job .entry))) (held x) most-threads ⌝ }
 {
+    let threads = l.threads;
     let mut mask: u64 = 0;
     let mut t: u8 = 0;
-    while t < MOST_THREADS {
+    while t < threads {
         let place = x.places[t as usize];
         let own = x.bufs[t as usize];
-        let on = may_execute(job, l, t, place, own);
+        let on = reasons::is_yes(may_execute(job, l, t, place, own));
         mask = bits::with_bit(mask, t, on);
         t += 1;
     }
     mask
 }
 
-// The flush steps of a thread t with these stores pending, behind the bits of the steps before them.
-fn flushes(model: Model, pending: Buf, t: u8, before: u64) -> u64
+// The flush steps of a thread t with these stores pending, to so many variables, behind the bits of the steps before them.
+fn flushes(model: Model, vars: u8, pending: Buf, t: u8, before: u64) -> u64
     requires { ⌜ BufferOk pending ⌝ }
+    requires { ⌜ vars ≤ most-variables ⌝ }
     requires { ⌜ t < most-threads ⌝ }
     requires { ⌜ before < 2 ^ (most-threads + most-variables * t) ⌝ }
     ensures { λ r. ⌜
-        ((j : jobs.Job) (x : states.State) → model ≡ j .model → held-buffer pending ≡ states.buffer t x →
+        ((j : jobs.Job) (x : states.State) → FlushesOf j x model vars t (held-buffer pending) →
         before ≡ steps.enabled-below j x (most-threads + most-variables * t) → r ≡ steps.enabled-below j x (most-threads + most-variables * (t + 1)))
         ⌝ }
 {
@@ -149,25 +158,27 @@ fn flushes(model: Model, pending: Buf, t: u8, before: u64) -> u64
     }
     let mut mask = before;
     let mut v: u8 = 0;
-    while v < MOST_VARIABLES {
-        let on = buffer::flush::may_flush(model, pending, v);
+    while v < vars {
+        let on = reasons::is_yes(buffer::flush::may_flush(model, pending, v));
         mask = bits::with_bit(mask, MOST_THREADS + MOST_VARIABLES * t + v, on);
         v += 1;
     }
     mask
 }
 
-// The steps that may be taken, as one number: bit s is set exactly when step s may be taken.
+// The steps that may be taken, as one number: bit s is set exactly when step s may be taken, and 0 exactly when it has a reason.
 pub fn enabled(job: &[u8], l: Layout, x: State) -> u64
     requires { ⌜ At (now job) l x ⌝ }
     ensures { λ r. ⌜ r ≡ steps.enabled (job-of (now (job .entry))) (held x) ⌝ }
 {
     let model = l.model;
+    let threads = l.threads;
+    let vars = l.vars;
     let mut mask = executes(job, l, x);
     let mut t: u8 = 0;
-    while t < MOST_THREADS {
+    while t < threads {
         let pending = x.bufs[t as usize];
-        mask = flushes(model, pending, t, mask);
+        mask = flushes(model, vars, pending, t, mask);
         t += 1;
     }
     mask

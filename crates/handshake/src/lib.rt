@@ -24,7 +24,7 @@ fn replay_words(a: replay::Answer) -> [u64; 4]
         replay::Answer::Refused(number, offset) => [0, number as u64, offset as u64, 0],
         replay::Answer::Reaches => [1, 0, 0, 0],
         replay::Answer::FallsShort => [2, 0, 0, 0],
-        replay::Answer::Stuck(i) => [3, i as u64, 0, 0],
+        replay::Answer::Stuck(i, why) => [3, i as u64, reasons::number_of(why), 0],
     }
 }
 

@@ -9,6 +9,9 @@ use lib.ListN.{length}
 use Rattle.rules.specs.Limits.{most-variables}
 use Rattle.rules.specs.State.{Pending}
 use Rattle.rules.specs.Step.{has-room, free}
+use Rattle.rules.specs.MayLaws.{needs-yes}
+use Rattle.rules.specs.declared.May.the-variants.{Yes}
+use Rattle.rules.specs.declared.Reason.the-variants.{BufferFull}
 use Rattle.rules.specs.Sound.{InstrIn}
 use Rattle.rules.specs.Onward.{ControlIn}
 use Rattle.rules.specs.declared.Model.{Model}
@@ -37,8 +40,8 @@ module _ {c d : ℕ} (more : c ≤ d) (b : List Pending) where
   room-more Tso h = lt-ltb (length b) d (omega (arith, ltb-true (length b) c h))
   room-more Pso h = lt-ltb (length b) d (omega (arith, ltb-true (length b) c h))
 
-  pub free-more : (m : Model) (w : Wait) → free m c w b ≡ true → free m d w b ≡ true
+  pub free-more : (m : Model) (w : Wait) → free m c w b ≡ Yes → free m d w b ≡ Yes
   unfolding free
   free-more m Never h = h
-  free-more m ForRoom h = room-more m h
+  free-more m ForRoom h = rw (room-more m (needs-yes _ BufferFull h))
   free-more m UntilEmpty h = h

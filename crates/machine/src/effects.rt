@@ -11,6 +11,7 @@ ghost use Rattle.rules.specs.Limits.{registers-each, most-variables, most-pendi
 ghost use Rattle.rules.specs.State.{buffer};
 ghost use Rattle.rules.specs.Kinds.{wait-of};
 ghost use Rattle.rules.specs.Step as rules;
+ghost use Rattle.rules.specs.declared.May.the-variants.{Yes};
 ghost use Rattle.rules.specs.Sound.{SourceIn};
 ghost use Rattle.rules.specs.declared.Model.{Model};
 ghost use Rattle.rules.specs.declared.Instr.the-variants.{Add, Load, Xchg};
@@ -87,7 +88,7 @@ fn xchg(x: State, t: u8, r: u8, v: u8) -> State
 pub fn changed(i: Instr, m: Model, x: State, t: u8) -> State
     requires { ⌜ At x t ⌝ }
     requires { ⌜ InstrOk i ⌝ }
-    requires { ⌜ rules.free m most-pending (wait-of i) (buffer t (held x)) ≡ true ⌝ }
+    requires { ⌜ rules.free m most-pending (wait-of i) (buffer t (held x)) ≡ Yes ⌝ }
     ensures { λ y. ⌜ Holds y (rules.changed m t i (held x)) ⌝ }
 {
     match i {

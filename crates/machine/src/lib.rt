@@ -1,16 +1,17 @@
 // The steps of the machine of 01: whether an instruction may be taken, what it does, and what a flush does.
 use buffer::Buf;
 use rules::Instr;
+use rules::May;
 use rules::Model;
 use state::State;
 ghost use mathlib.Core.Path.{_≡_};
-ghost use mathlib.Core.Bool.{true};
 ghost use mathlib.Core.Option.{some};
 ghost use Prim.Native.Nat.{_<_};
 ghost use Rattle.rules.specs.Limits.{most-variables, most-pending};
 ghost use Rattle.rules.specs.State.{buffer};
 ghost use Rattle.rules.specs.Kinds.{wait-of};
 ghost use Rattle.rules.specs.Step as rules;
+ghost use Rattle.rules.specs.declared.May.the-variants.{Yes};
 ghost use Rattle.buffer.specs.Held.{held-buffer, BufferOk};
 ghost use Rattle.state.specs.Held.{held};
 ghost use Rattle.state.specs.Parts.{At, Runs, Holds};
@@ -19,8 +20,8 @@ ghost use Rattle.machine.specs.Operands.{InstrOk};
 mod effects;
 mod waits;
 
-// Whether instruction i of a thread whose buffer is b may be taken: no state is made.
-pub fn may_execute(i: Instr, m: Model, capacity: u8, b: Buf) -> bool
+// Whether instruction i of a thread whose buffer is b may be taken, and why not: no state is made.
+pub fn may_execute(i: Instr, m: Model, capacity: u8, b: Buf) -> May
     requires { ⌜ BufferOk b ⌝ }
     ensures { λ r. ⌜ r ≡ rules.may-execute m capacity (some i) (held-buffer b) ⌝ }
 {
@@ -31,7 +32,7 @@ pub fn may_execute(i: Instr, m: Model, capacity: u8, b: Buf) -> bool
 pub fn execute(i: Instr, m: Model, x: State, t: u8) -> State
     requires { ⌜ Runs x t ⌝ }
     requires { ⌜ InstrOk i ⌝ }
-    requires { ⌜ rules.free m most-pending (wait-of i) (buffer t (held x)) ≡ true ⌝ }
+    requires { ⌜ rules.free m most-pending (wait-of i) (buffer t (held x)) ≡ Yes ⌝ }
     ensures { λ y. ⌜ Holds y (rules.executed m t i (held x)) ⌝ }
 {
     let place = effects::place_after(kinds::control_of(i), x, t);

@@ -1,6 +1,8 @@
 // What an instruction waits for in its thread's own buffer.
 use buffer::Buf;
+use rules::May;
 use rules::Model;
+use rules::Reason;
 use rules::Wait;
 ghost use mathlib.Core.Path.{_≡_};
 ghost use Rattle.rules.specs.Step as rules;
@@ -18,14 +20,14 @@ fn has_room(m: Model, capacity: u8, b: Buf) -> bool
     }
 }
 
-// Whether what is waited for is there.
-pub fn free(w: Wait, m: Model, capacity: u8, b: Buf) -> bool
+// Whether what is waited for is there, and what is missing if not.
+pub fn free(w: Wait, m: Model, capacity: u8, b: Buf) -> May
     requires { ⌜ BufferOk b ⌝ }
     ensures { λ r. ⌜ r ≡ rules.free m capacity w (held-buffer b) ⌝ }
 {
     match w {
-        Wait::Never => true,
-        Wait::ForRoom => has_room(m, capacity, b),
-        Wait::UntilEmpty => buffer::is_empty(b),
+        Wait::Never => May::Yes,
+        Wait::ForRoom => reasons::needs(has_room(m, capacity, b), Reason::BufferFull),
+        Wait::UntilEmpty => reasons::needs(buffer::is_empty(b), Reason::BufferNotEmpty),
     }
 }

@@ -1,10 +1,11 @@
 -- Reachability in any transition system. To be read in this order: the words of lists, a system and its runs, the order of schedules,
--- what the three answers of a search mean, and those of a replay.
+-- what the three answers of a search mean, a system that says why, and what the answers of a replay mean.
 pub mod Lists
 pub mod System
 pub mod Order
 pub mod Meaning
 pub mod Words
+pub mod Explained
 pub mod Replay
 -- What a search needs beside the system, and a search on lists.
 pub mod Searchable

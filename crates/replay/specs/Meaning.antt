@@ -1,4 +1,4 @@
--- What a replay answers, for every input: 01, "Replay and fence check".
+-- What a replay answers, for every input: 01, "Replay and fence check", and request 5.
 use mathlib.Core.Path.{_≡_, refl, sym, _∙_, ap, subst}
 use mathlib.Core.List.{List, [], _∷_}
 use Prim.Native.Nat.{ℕ}
@@ -10,34 +10,42 @@ use Rattle.reach.specs.Words.{refusal-words}
 use Rattle.rules.specs.State.{State}
 use Rattle.rules.specs.Job.{Job}
 use Rattle.rules.specs.File.{Decoded, accepted, refused, decode}
-use Rattle.rules.specs.Machine.{machine}
+use Rattle.rules.specs.Machine.{explained, machine}
+use Rattle.rules.specs.Reasons.{number-of, by-number, numbered}
+use Rattle.rules.specs.declared.Reason.{Reason}
+use Rattle.rules.specs.declared.Reason.the-variants.{NoSuchStep, ThreadEnded, BufferFull, BufferNotEmpty, NothingToFlush, NotTheOldest}
 use Rattle.replay.specs.declared.Answer.{Answer}
 use Rattle.replay.specs.declared.Answer.the-variants.{Refused, Reaches, FallsShort, Stuck}
 
 -- each case of the answer with its number and values
-abbrev pub replayed-words : reach.Replayed → List ℕ
+abbrev pub replayed-words : reach.Replayed Reason → List ℕ
 replayed-words reach.reaches = 1 ∷ 0 ∷ 0 ∷ 0 ∷ []
 replayed-words reach.falls-short = 2 ∷ 0 ∷ 0 ∷ 0 ∷ []
-replayed-words (reach.stuck i) = 3 ∷ i ∷ 0 ∷ 0 ∷ []
+replayed-words (reach.stuck i why) = 3 ∷ i ∷ number-of why ∷ 0 ∷ []
 
 abbrev pub words : Answer → List ℕ
 words (Refused number offset) = refusal-words number offset
 words Reaches = replayed-words reach.reaches
 words FallsShort = replayed-words reach.falls-short
-words (Stuck i) = replayed-words (reach.stuck i)
+words (Stuck i why) = replayed-words (reach.stuck i why)
 
 -- worked values of them
 pub words-are :
     (words (Refused 4 10) ≡ 0 ∷ 4 ∷ 10 ∷ 0 ∷ [])
     × (words Reaches ≡ 1 ∷ 0 ∷ 0 ∷ 0 ∷ [])
     × (words FallsShort ≡ 2 ∷ 0 ∷ 0 ∷ 0 ∷ [])
-    × (words (Stuck 1) ≡ 3 ∷ 1 ∷ 0 ∷ 0 ∷ [])
-words-are = (refl, refl, refl, refl)
+    × (words (Stuck 7 NoSuchStep) ≡ 3 ∷ 7 ∷ 1 ∷ 0 ∷ [])
+    × (words (Stuck 7 ThreadEnded) ≡ 3 ∷ 7 ∷ 2 ∷ 0 ∷ [])
+    × (words (Stuck 7 BufferFull) ≡ 3 ∷ 7 ∷ 3 ∷ 0 ∷ [])
+    × (words (Stuck 7 BufferNotEmpty) ≡ 3 ∷ 7 ∷ 4 ∷ 0 ∷ [])
+    × (words (Stuck 7 NothingToFlush) ≡ 3 ∷ 7 ∷ 5 ∷ 0 ∷ [])
+    × (words (Stuck 7 NotTheOldest) ≡ 3 ∷ 7 ∷ 6 ∷ 0 ∷ [])
+words-are = (refl, refl, refl, refl, refl, refl, refl, refl, refl)
 
--- "stuck at i", else "reaches" or "falls short" by the state at the end
+-- "stuck at i" and why, else "reaches" or "falls short" by the state at the end
 pub record ReplayFor (j : Job) (schedule : List ℕ) (ws : List ℕ) : Type 0 where
-  pub replayed : reach.Replayed
-  pub means : reach.ReplaysTo (machine j) schedule replayed
+  pub replayed : reach.Replayed Reason
+  pub means : reach.ReplaysTo (explained j) schedule replayed
   pub answer : ws ≡ replayed-words replayed
 
 -- "Replay and fence check refuse by 1 to 6."
@@ -55,7 +63,7 @@ replay-once bytes schedule ws vs h k = which (decode bytes) h k
   where
     which : (d : Decoded) → ReplayOf d schedule ws → ReplayOf d schedule vs → ws ≡ vs
     which (accepted j) h k =
-        h .answer ∙ ap replayed-words (one-replay (machine j) schedule (h .replayed) (k .replayed) (h .means) (k .means)) ∙ sym (k .answer)
+        h .answer ∙ ap replayed-words (one-replay (explained j) schedule (h .replayed) (k .replayed) (h .means) (k .means)) ∙ sym (k .answer)
     which (refused number offset) h k = h ∙ sym k
 
 -- the schedule that search gives replays to "reaches"
@@ -65,20 +73,20 @@ pub found-reaches :
 found-reaches bytes j e N d n o h ws r =
     replay-once bytes (o .schedule) ws (replayed-words reach.reaches) r
     (subst (λ z. ReplayOf z (o .schedule) (replayed-words reach.reaches)) (sym e)
-    (record { replayed = reach.reaches; means = schedule-reaches (machine j) N d n o h; answer = refl }))
+    (record { replayed = reach.reaches; means = schedule-reaches (explained j) N d n o h; answer = refl }))
 
 -- The words tell the answers apart: from the words back to the case.
 case-of : List ℕ → Answer
 case-of ws =
     let x = getD ws 1 0 in
-    getD (Refused x (getD ws 2 0) ∷ Reaches ∷ FallsShort ∷ []) (getD ws 0 0) (Stuck x)
+    getD (Refused x (getD ws 2 0) ∷ Reaches ∷ FallsShort ∷ []) (getD ws 0 0) (Stuck x (by-number (getD ws 2 0)))
 
 case-back : (a : Answer) → case-of (words a) ≡ a
 unfolding case-of
 case-back (Refused number offset) = refl
 case-back Reaches = refl
 case-back FallsShort = refl
-case-back (Stuck i) = refl
+case-back (Stuck i why) = ap (Stuck i) (numbered why)
 
 pub same-answer : (a b : Answer) → words a ≡ words b → a ≡ b
 same-answer a b e = sym (case-back a) ∙ ap case-of e ∙ case-back b

@@ -14,7 +14,9 @@ use Rattle.reach.specs.Replay as reach
 use Rattle.reach.specs.Meaning.{LeadsTo}
 use Rattle.reach.specs.RunLaws.{snoc-run}
 use Rattle.rules.specs.Job.{Job, start}
-use Rattle.rules.specs.Step.{may, after, next}
+use Rattle.rules.specs.Step.{may, after, step, next}
+use Rattle.rules.specs.declared.May.the-variants.{Yes, No}
+use Rattle.rules.specs.declared.Reason.{Reason}
 use Rattle.rules.specs.Goal.{goal}
 use Rattle.rules.specs.File.{job-of}
 use Rattle.rules.specs.Keeps.{run-well-formed}
@@ -40,17 +42,17 @@ module _ (j : Job) (w : List ℕ) where
     step-at : getElem? w i ≡ some (getD w i 0)
     step-at = at-default w i 0 more
 
-    pub stepping-stuck : may j (getD w i 0) (held s) ≡ false → ReplayFor j w (replayed-words (reach.stuck i))
-    unfolding next
-    stepping-stuck e =
+    pub stepping-stuck : {why : Reason} → may j (getD w i 0) (held s) ≡ No why → ReplayFor j w (replayed-words (reach.stuck i why))
+    unfolding step
+    stepping-stuck {why} e =
         record {
-          replayed = reach.stuck i;
+          replayed = reach.stuck i why;
           means = record { there = held s; before = h .leads; step = getD w i 0; step-at = step-at; not-enabled = rw e };
           answer = refl;
         }
 
-    pub stepping-on : {y : State} → may j (getD w i 0) (held s) ≡ true → Holds y (after j (getD w i 0) (held s)) → Stepping y (i + 1)
-    unfolding next
+    pub stepping-on : {y : State} → may j (getD w i 0) (held s) ≡ Yes → Holds y (after j (getD w i 0) (held s)) → Stepping y (i + 1)
+    unfolding step
     stepping-on {y} e taken =
         let leads : next j (getD w i 0) (held s) ≡ some (held y) = rw (e, taken .is) in
         record {

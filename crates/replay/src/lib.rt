@@ -1,16 +1,18 @@
 // Replay: 01, "Replay and fence check". Any bytes as a job, and any bytes as a schedule; nothing is written.
 use job::Decoded;
 use job::Layout;
+use rules::May;
+use rules::Reason;
 ghost use Rattle.rules.specs.File.{job-of};
 ghost use Rattle.job.specs.Laid.{IsAccepted};
 ghost use Rattle.replay.specs.Meaning.{words, ReplayFor, ReplayPromise};
 
-// What a replay answers: the refusal's number and offset; the goal holds at the end, or not; the first step that may not be taken.
+// What a replay answers: the refusal's number and offset; the goal holds at the end, or not; the first step that may not be taken, and why.
 pub enum Answer {
     Refused(u8, usize),
     Reaches,
     FallsShort,
-    Stuck(usize),
+    Stuck(usize, Reason),
 }
 
 // The schedule of an accepted job, step by step: a step is taken if it may be.
@@ -22,10 +24,14 @@ fn replay_accepted(job: &[u8], schedule: &[u8], l: Layout) -> Answer
     let mut i = 0;
     while i < schedule.len() {
         let s = schedule[i];
-        if !engine::may(job, l, x, s) {
-            return Answer::Stuck(i);
+        match engine::may(job, l, x, s) {
+            May::Yes => {
+                x = engine::take(job, l, x, s);
+            }
+            May::No(why) => {
+                return Answer::Stuck(i, why);
+            }
         }
-        x = engine::take(job, l, x, s);
         i += 1;
     }
     if engine::goal(job, l, x) {

@@ -35,9 +35,10 @@ fn print_line(answer: Answer) {
         Answer::FallsShort => {
             io::write_all(STDOUT_FILENO, b"FALLS SHORT");
         }
-        Answer::Stuck(step) => {
+        Answer::Stuck(step, why) => {
             io::write_all(STDOUT_FILENO, b"STUCK");
             print_number(step as u64);
+            print_number(reasons::number_of(why));
         }
     }
     end_line();

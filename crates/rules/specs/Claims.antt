@@ -14,22 +14,25 @@ use Rattle.reach.specs.Rows.{find}
 use Rattle.reach.specs.Found.{find-means}
 use Rattle.reach.specs.Unique.{one-outcome}
 use Rattle.reach.specs.Promise.{brings, never, unknown-exactly}
+use Rattle.reach.specs.Explained.{Stepped, gives, withheld}
 use Rattle.reach.specs.Replay.{Replayed, reaches, falls-short, stuck, ReplaysTo, replay}
 use Rattle.reach.specs.ReplayLaws.{replay-means}
 use Rattle.rules.specs.State.{State}
 use Rattle.rules.specs.Job.{Job, start}
-use Rattle.rules.specs.Step.{enabled}
+use Rattle.rules.specs.Step.{step, enabled}
+use Rattle.rules.specs.Reasons.{number-of, same-number}
 use Rattle.rules.specs.Slot.{slot-bytes}
 use Rattle.rules.specs.Goal.{every, goal}
 use Rattle.rules.specs.File.{Decoded, accepted, refused, decode, held-job, job-of}
 use Rattle.rules.specs.Tests.{both, three}
-use Rattle.rules.specs.Machine.{machine}
+use Rattle.rules.specs.Machine.{explained, machine}
 use Rattle.rules.specs.Same.{same-list, same-list-equal, same-state, same-state-equal, searchable}
 use Rattle.rules.specs.Fences.{Checked, fenced, open-at, ChecksTo}
 use Rattle.rules.specs.FenceCheck.{fence-check, fence-check-means}
+use Rattle.rules.specs.declared.Reason.{Reason}
 
 -- what a row says of a job: of its search, of the slots and links that a search then holds, of its fence check, of a replay, of the state
--- after a schedule (its slot, the steps that may be taken there); or its refusal
+-- after a schedule (its slot, the steps that may be taken there, those that may not be for a reason); or its refusal
 pub data Claim : Type 0 where
   search-reaches : (states : ℕ) (schedule : List ℕ) → Claim
   search-never : (states : ℕ) → Claim
@@ -37,9 +40,10 @@ pub data Claim : Type 0 where
   slots-follow : (schedules : List (List ℕ)) → Claim
   links-are : (links : List ℕ) → Claim
   fences-say : Checked → Claim
-  replay-says : (schedule : List ℕ) → Replayed → Claim
+  replay-says : (schedule : List ℕ) → Replayed Reason → Claim
   slot-after : (schedule bytes : List ℕ) → Claim
   enabled-after : (schedule : List ℕ) (mask : ℕ) → Claim
+  withheld-after : (schedule steps : List ℕ) (why : Reason) → Claim
   refuses : (number offset : ℕ) → Claim
 
 pub record Case : Type 0 where
@@ -51,8 +55,8 @@ pub record Case : Type 0 where
 abbrev pub case : ℕ → List ℕ → Claim → Case
 case n b c = record { slots = n; bytes = b; claim = c }
 
--- What each claim means: distance, first schedule, counts, never, walks, runs, the bytes of a slot, the enabled steps. What computes an
--- answer is not named.
+-- What each claim means: distance, first schedule, counts, never, walks, runs, the bytes of a slot, the enabled steps, why others are withheld.
+-- What computes an answer is not named.
 
 -- slots hold, one after the other, the states to which the schedules lead
 abbrev pub InTurn : Job → List (List ℕ) → List State → Type 0
@@ -82,9 +86,10 @@ module _ (j : Job) (N : ℕ) where
   Says (slots-follow ws) = Outcomes (λ o. InTurn j ws (o .slots))
   Says (links-are l) = Outcomes (λ o. o .links ≡ l)
   Says (fences-say a) = ChecksTo (j .threads) a
-  Says (replay-says w a) = ReplaysTo (machine j) w a
+  Says (replay-says w a) = ReplaysTo (explained j) w a
   Says (slot-after w bytes) = After j w (λ x. slot-bytes x ≡ bytes)
   Says (enabled-after w mask) = After j w (λ x. enabled j x ≡ mask)
+  Says (withheld-after w steps why) = After j w (λ x. All (λ s. step j s x ≡ withheld why) steps)
   Says (refuses number offset) = ⊥
 
 -- a refused job has no claim but its refusal
@@ -118,16 +123,20 @@ same-fenced fenced (open-at t s l) = false
 same-fenced (open-at t s l) fenced = false
 same-fenced (open-at t s l) (open-at t′ s′ l′) = eqb t t′ && eqb s s′ && eqb l l′
 
-unfoldable pub same-replayed : Replayed → Replayed → Bool
+unfoldable pub same-replayed : Replayed Reason → Replayed Reason → Bool
 same-replayed reaches reaches = true
 same-replayed reaches falls-short = false
-same-replayed reaches (stuck k) = false
+same-replayed reaches (stuck k why) = false
 same-replayed falls-short reaches = false
 same-replayed falls-short falls-short = true
-same-replayed falls-short (stuck k) = false
-same-replayed (stuck i) reaches = false
-same-replayed (stuck i) falls-short = false
-same-replayed (stuck i) (stuck k) = eqb i k
+same-replayed falls-short (stuck k why) = false
+same-replayed (stuck i because) reaches = false
+same-replayed (stuck i because) falls-short = false
+same-replayed (stuck i because) (stuck k why) = eqb i k && eqb (number-of because) (number-of why)
+
+unfoldable pub same-withheld : Stepped State Reason → Reason → Bool
+same-withheld (gives y) why = false
+same-withheld (withheld because) why = eqb (number-of because) (number-of why)
 
 unfoldable pub same-end : Option State → State → Bool
 same-end none x = false
@@ -150,9 +159,10 @@ claim-test j N search-unknown = leb 1 N && answer-unknown (find (searchable j) N
 claim-test j N (slots-follow ws) = leb 1 N && in-turn-test j ws (find (searchable j) N .slots)
 claim-test j N (links-are l) = leb 1 N && same-list eqb (find (searchable j) N .links) l
 claim-test j N (fences-say a) = same-fenced (fence-check (j .threads)) a
-claim-test j N (replay-says w a) = same-replayed (replay (machine j) w) a
+claim-test j N (replay-says w a) = same-replayed (replay (explained j) w) a
 claim-test j N (slot-after w bytes) = after-test (run (machine j) w (start j)) (λ x. same-list eqb (slot-bytes x) bytes)
 claim-test j N (enabled-after w mask) = after-test (run (machine j) w (start j)) (λ x. eqb (enabled j x) mask)
+claim-test j N (withheld-after w steps why) = after-test (run (machine j) w (start j)) (λ x. every (λ s. same-withheld (step j s x) why) steps)
 claim-test j N (refuses number offset) = false
 
 unfoldable pub refusal-test : (number offset : ℕ) → Claim → Bool
@@ -165,6 +175,7 @@ refusal-test number offset (fences-say a) = false
 refusal-test number offset (replay-says w a) = false
 refusal-test number offset (slot-after w bytes) = false
 refusal-test number offset (enabled-after w mask) = false
+refusal-test number offset (withheld-after w steps why) = false
 refusal-test number offset (refuses k at) = eqb k number && eqb at offset
 
 unfoldable pub decoded-test : ℕ → Claim → Decoded → Bool
@@ -262,17 +273,33 @@ module _ (j : Job) (N : ℕ) where
       let z = eqb→eq c f (p .2) in
       cc
 
-  same-replayed-equal : (a b : Replayed) → T (same-replayed a b) → a ≡ b
+  same-replayed-equal : (a b : Replayed Reason) → T (same-replayed a b) → a ≡ b
   unfolding same-replayed
   same-replayed-equal reaches reaches t = refl
   same-replayed-equal reaches falls-short t = absurd t
-  same-replayed-equal reaches (stuck k) t = absurd t
+  same-replayed-equal reaches (stuck k why) t = absurd t
   same-replayed-equal falls-short reaches t = absurd t
   same-replayed-equal falls-short falls-short t = refl
-  same-replayed-equal falls-short (stuck k) t = absurd t
-  same-replayed-equal (stuck i) reaches t = absurd t
-  same-replayed-equal (stuck i) falls-short t = absurd t
-  same-replayed-equal (stuck i) (stuck k) t = ap stuck (eqb→eq i k t)
+  same-replayed-equal falls-short (stuck k why) t = absurd t
+  same-replayed-equal (stuck i because) reaches t = absurd t
+  same-replayed-equal (stuck i because) falls-short t = absurd t
+  same-replayed-equal (stuck i because) (stuck k why) t =
+      let p = both (eqb i k) (eqb (number-of because) (number-of why)) t in
+      let at = eqb→eq i k (p .0) in
+      let reason = same-number because why (eqb→eq (number-of because) (number-of why) (p .1)) in
+      cc
+
+  same-withheld-equal : (a : Stepped State Reason) (why : Reason) → T (same-withheld a why) → a ≡ withheld why
+  unfolding same-withheld
+  same-withheld-equal (gives y) why t = absurd t
+  same-withheld-equal (withheld because) why t = ap withheld (same-number because why (eqb→eq (number-of because) (number-of why) t))
+
+  all-withheld : (x : State) (why : Reason) (steps : List ℕ) → T (every (λ s. same-withheld (step j s x) why) steps) → All (λ s. step j s x ≡ withheld why) steps
+  unfolding every
+  all-withheld x why [] t = tt
+  all-withheld x why (s ∷ steps) t =
+      let p = both (same-withheld (step j s x) why) (every (λ s. same-withheld (step j s x) why) steps) t in
+      (same-withheld-equal (step j s x) why (p .0), all-withheld x why steps (p .1))
 
   claim-right : (m : Claim) → T (claim-test j N m) → Says j N m
   unfolding claim-test
@@ -294,12 +321,15 @@ module _ (j : Job) (N : ℕ) where
       every-outcome (leb→le 1 N (p .0)) (λ o. o .links ≡ l) (same-list-equal eqb eqb→eq (find (searchable j) N .links) l (p .1))
   claim-right (fences-say a) t = subst (ChecksTo (j .threads)) (same-fenced-equal (fence-check (j .threads)) a t) (fence-check-means (j .threads))
   claim-right (replay-says w a) t =
-      subst (ReplaysTo (machine j) w) (same-replayed-equal (replay (machine j) w) a t) (replay-means (machine j) w)
+      subst (ReplaysTo (explained j) w) (same-replayed-equal (replay (explained j) w) a t) (replay-means (explained j) w)
   claim-right (slot-after w bytes) t =
       after-right w (λ x. slot-bytes x ≡ bytes) (λ x. same-list eqb (slot-bytes x) bytes)
       (λ x. same-list-equal eqb eqb→eq (slot-bytes x) bytes) (run (machine j) w (start j)) refl t
   claim-right (enabled-after w mask) t =
       after-right w (λ x. enabled j x ≡ mask) (λ x. eqb (enabled j x) mask) (λ x. eqb→eq (enabled j x) mask) (run (machine j) w (start j)) refl t
+  claim-right (withheld-after w steps why) t =
+      after-right w (λ x. All (λ s. step j s x ≡ withheld why) steps) (λ x. every (λ s. same-withheld (step j s x) why) steps)
+      (λ x. all-withheld x why steps) (run (machine j) w (start j)) refl t
   claim-right (refuses number offset) t = absurd t
 
 refusal-right : (number offset : ℕ) (m : Claim) → T (refusal-test number offset m) → m ≡ refuses number offset
@@ -313,6 +343,7 @@ refusal-right number offset (fences-say a) t = absurd t
 refusal-right number offset (replay-says w a) t = absurd t
 refusal-right number offset (slot-after w bytes) t = absurd t
 refusal-right number offset (enabled-after w mask) t = absurd t
+refusal-right number offset (withheld-after w steps why) t = absurd t
 refusal-right number offset (refuses k at) t =
     let p = both (eqb k number) (eqb at offset) t in
     let x = eqb→eq k number (p .0) in
@@ -343,6 +374,7 @@ refusal-of (fences-say a) = none
 refusal-of (replay-says w a) = none
 refusal-of (slot-after w bytes) = none
 refusal-of (enabled-after w mask) = none
+refusal-of (withheld-after w steps why) = none
 refusal-of (refuses number offset) = some (refused number offset)
 
 refusal-meant : (N number offset : ℕ) (d : Decoded) → Meant N (refuses number offset) d → d ≡ refused number offset

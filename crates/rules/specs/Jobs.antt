@@ -487,6 +487,26 @@ nine-stores =
     ∷ 0x00 ∷ 0x01 ∷ 0x01 ∷ 0x00 ∷ 0x00 ∷ 0x00
     ∷ []
 
+-- TSO, C 2, two threads and three variables: y=1, x=1, x=2 against z=1, FENCE; goal thread 0 at place 0. Each reason comes up in it.
+unfoldable pub each-reason : List ℕ
+each-reason =
+    -- length 36, version 1, TSO, C 2, 2 threads, 3 variables, all 0
+    0x00 ∷ 0x24 ∷ 0x01 ∷ 0x01 ∷ 0x02 ∷ 0x02 ∷ 0x03 ∷ 0x00 ∷ 0x00 ∷ 0x00
+    -- thread 0: y=1, x=1, x=2
+    ∷ 0x03 ∷ 0x05 ∷ 0x00 ∷ 0x01 ∷ 0x01 ∷ 0x05 ∷ 0x00 ∷ 0x00 ∷ 0x01 ∷ 0x05 ∷ 0x00 ∷ 0x00 ∷ 0x02
+    -- thread 1: z=1, FENCE
+    ∷ 0x02 ∷ 0x05 ∷ 0x00 ∷ 0x02 ∷ 0x01 ∷ 0x06 ∷ 0x00 ∷ 0x00 ∷ 0x00
+    -- any buffers, 1 clause
+    ∷ 0x00 ∷ 0x01 ∷ 0x01 ∷ 0x00 ∷ 0x00 ∷ 0x00
+    ∷ []
+
+-- the same under SC (model 0, C 0) and under PSO
+unfoldable pub each-reason-sc : List ℕ
+each-reason-sc = set (set each-reason 3 0) 4 0
+
+unfoldable pub each-reason-pso : List ℕ
+each-reason-pso = set each-reason 3 2
+
 -- instructions as the file has them
 unfoldable pub set-0 : List ℕ
 set-0 = 0x01 ∷ 0x00 ∷ 0x00 ∷ 0x00 ∷ []

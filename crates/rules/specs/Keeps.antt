@@ -1,9 +1,9 @@
 -- Every state that an accepted job reaches is well formed: the start is, and each step keeps it so.
 use mathlib.Core.Path.{_≡_, refl, ap, subst}
-use mathlib.Core.Bool.{Bool, true, false, cond, _&&_, _||_, false≢true}
+use mathlib.Core.Bool.{Bool, true, false, cond, _||_, false≢true}
 use mathlib.Core.List.{List, [], _∷_, _++_}
 use mathlib.Core.Option.{Option, none, some}
-use Prim.Native.Nat.{ℕ, zero, suc, _+_, _-_, _*_, _%_, _≤_, _<_}
+use Prim.Native.Nat.{ℕ, zero, suc, _+_, _-_, _*_, _≤_, _<_}
 use native.Mathlib.Omega.{arith}
 use lib.Dec.{eqb, ltb, leb}
 use lib.ListN.{length, getD, replicate, getElem?, length-append, length-set, length-replicate}
@@ -17,13 +17,16 @@ use Rattle.rules.specs.State.{Pending, State, place, register, variable,
 use Rattle.rules.specs.State.{with-place, with-register, with-variable, with-buffer}
 use Rattle.rules.specs.Job.{Job, start}
 use Rattle.rules.specs.Kinds.{control-of, wait-of}
-use Rattle.rules.specs.Step.{newest, by-variable, oldest-to, without-oldest-to, has-room, free, may-execute, is-pending-to, is-oldest-to, may-flush}
-use Rattle.rules.specs.Step.{carried, stored, changed, executed, flushed, instruction-at, flush-thread, flush-variable, may, after-execute, after, next}
-use Rattle.rules.specs.Tests.{both-true, given-some}
+use Rattle.rules.specs.Step.{newest, by-variable, oldest-to, without-oldest-to, has-room, free, may-execute, is-pending-to, may-flush}
+use Rattle.rules.specs.Step.{carried, stored, changed, executed, flushed, instruction-at, flush-thread, flush-variable, needs, _then_}
+use Rattle.rules.specs.Step.{may-execute-of, may-flush-of, may, after-execute, after, step, next}
+use Rattle.rules.specs.MayLaws.{no-is-not-yes, needs-yes, then-yes, taken-some, execute-passed, flush-passed}
 use Rattle.rules.specs.Machine.{machine}
 use Rattle.rules.specs.Fences.{onward}
 use Rattle.rules.specs.Sound.{SourceIn, InstrIn, CapacityIn, JobIn, InOrder, BufferIn, WellFormed}
 use Rattle.rules.specs.Onward.{place-after-onward, control-in, onward-in}
+use Rattle.rules.specs.declared.May.the-variants.{Yes}
+use Rattle.rules.specs.declared.Reason.the-variants.{NoSuchStep}
 use Rattle.rules.specs.declared.Model.{Model}
 use Rattle.rules.specs.declared.Model.the-variants.{Sc, Tso, Pso}
 use Rattle.rules.specs.declared.Source.{Source}
@@ -106,12 +109,11 @@ oldest-taken v (p ∷ b) h = which (eqb (p .variable) v) refl h (oldest-taken v 
     which false e h behind = later (behind h)
 
 -- a store that may be flushed is pending
-flush-pending : (m : Model) (v : ℕ) (b : List Pending) → may-flush m v b ≡ true → is-pending-to v b ≡ true
-unfolding may-flush is-oldest-to is-pending-to
-flush-pending Sc v b h = absurd (false≢true h)
-flush-pending Tso v [] h = h
-flush-pending Tso v (p ∷ b) h = rw h
-flush-pending Pso v b h = h
+flush-pending : (m : Model) (v : ℕ) (b : List Pending) → may-flush m v b ≡ Yes → is-pending-to v b ≡ true
+unfolding may-flush
+flush-pending Sc v b h = absurd (no-is-not-yes h)
+flush-pending Tso v b h = needs-yes (is-pending-to v b) _ (then-yes _ _ h .0)
+flush-pending Pso v b h = needs-yes (is-pending-to v b) _ h
 
 newest-value : (v k : ℕ) (b : List Pending) → Value k → All (λ p. Value (p .value)) b → Value (newest v k b)
 unfolding newest
@@ -325,7 +327,7 @@ module _ (j : Job) (t : ℕ) (used : t < length (j .threads)) (x : State) (w : W
       (rw e (by-variable-ordered _ (buffer t x) (rw e at (buffer-in j x w t .order))))
 
   changed-keeps : (n : ℕ) (i : Instr) → InstrIn (length (j .initial)) n i
-      → free (j .model) (j .capacity) (wait-of i) (buffer t x) ≡ true → WellFormed j (changed (j .model) t i x)
+      → free (j .model) (j .capacity) (wait-of i) (buffer t x) ≡ Yes → WellFormed j (changed (j .model) t i x)
   unfolding changed wait-of free
   changed-keeps n (Set r k) h f = with-register-keeps j x w t r k used (h .0) (h .1)
   changed-keeps n (Add r k) h f = with-register-keeps j x w t r _ used (h .0) (omega arith)
@@ -333,14 +335,15 @@ module _ (j : Job) (t : ℕ) (used : t < length (j .threads)) (x : State) (w : W
       with-register-keeps j x w t r _ used (h .0)
       (newest-value v _ _ (variable-value j x w v) (buffer-in j x w _ .values-in))
   changed-keeps n (Store a v) h f =
-      stored-keeps (j .model) refl v (carried t x a) (record { variable-in = h .1; value-in = carried-value j x w t a (h .0) }) f
+      stored-keeps (j .model) refl v (carried t x a) (record { variable-in = h .1; value-in = carried-value j x w t a (h .0) })
+      (needs-yes _ _ f)
   changed-keeps n Fence h f = w
   changed-keeps n (Xchg r v) h f =
       with-register-keeps j _ (with-variable-keeps j x w v _ (h .1) (register-value j x w t r)) t r _ used (h .0) (variable-value j x w v)
   changed-keeps n (Jeq r p k) h f = w
   changed-keeps n (Jmp p) h f = w
 
-  executed-keeps : (i : Instr) → StandsIn j t (place t x) i → free (j .model) (j .capacity) (wait-of i) (buffer t x) ≡ true
+  executed-keeps : (i : Instr) → StandsIn j t (place t x) i → free (j .model) (j .capacity) (wait-of i) (buffer t x) ≡ Yes
       → WellFormed j (executed (j .model) t i x)
   unfolding executed
   executed-keeps i h f =
@@ -351,12 +354,12 @@ module _ (j : Job) (t : ℕ) (used : t < length (j .threads)) (x : State) (w : W
 
 module _ (j : Job) (ok : JobIn j) (x : State) (w : WellFormed j x) where
   execute-keeps : (t : ℕ) (o : Option Instr) → instruction-at j t (place t x) ≡ o
-      → may-execute (j .model) (j .capacity) o (buffer t x) ≡ true → WellFormed j (after-execute (j .model) t o x)
+      → may-execute (j .model) (j .capacity) o (buffer t x) ≡ Yes → WellFormed j (after-execute (j .model) t o x)
   unfolding may-execute after-execute
   execute-keeps t none e may = w
   execute-keeps t (some i) e may = let h = stands j ok t (place t x) i e in executed-keeps j t (h .thread) x w i h may
 
-  flush-keeps : (t v : ℕ) → may-flush (j .model) v (buffer t x) ≡ true → WellFormed j (flushed t v x)
+  flush-keeps : (t v : ℕ) → may-flush (j .model) v (buffer t x) ≡ Yes → WellFormed j (flushed t v x)
   unfolding flushed
   flush-keeps t v may =
       let i = oldest-taken v (buffer t x) (flush-pending (j .model) v (buffer t x) may) in
@@ -366,19 +369,19 @@ module _ (j : Job) (ok : JobIn j) (x : State) (w : WellFormed j x) where
       let memory-set = with-variable-keeps j x w v _ (r .0 .variable-in) (r .0 .value-in) in
       with-buffer-keeps j _ memory-set t _ (omega arith) (r .1)
 
-  after-keeps : (s : ℕ) → may j s x ≡ true → WellFormed j (after j s x)
+  after-keeps : (s : ℕ) → may j s x ≡ Yes → WellFormed j (after j s x)
   unfolding may after
   after-keeps s = which (ltb s most-threads)
     where
       which :
-          (b : Bool) →
-          cond b (may-execute (j .model) (j .capacity) (instruction-at j s (place s x)) (buffer s x))
-          (ltb s step-bound && may-flush (j .model) (flush-variable s) (buffer (flush-thread s) x))
-          ≡ true →
+          (b : Bool) → cond b (may-execute-of j s x) (needs (ltb s step-bound) NoSuchStep then may-flush-of j (flush-thread s) (flush-variable s) x) ≡ Yes →
           WellFormed j
           (cond b (after-execute (j .model) s (instruction-at j s (place s x)) x) (flushed (flush-thread s) (flush-variable s) x))
-      which true h = execute-keeps s (instruction-at j s (place s x)) refl h
-      which false h = flush-keeps (flush-thread s) (flush-variable s) (both-true (ltb s step-bound) _ h .1)
+      which true h = execute-keeps s (instruction-at j s (place s x)) refl (execute-passed j x s h .1)
+      which false h =
+          let t = flush-thread s in
+          let v = flush-variable s in
+          flush-keeps t v (flush-passed j x t v (then-yes (needs (ltb s step-bound) NoSuchStep) (may-flush-of j t v x) h .1) .2)
 
 pub start-well-formed : (j : Job) → JobIn j → WellFormed j (start j)
 unfolding start place register variable buffer
@@ -399,9 +402,9 @@ start-well-formed j ok =
     }
 
 pub next-well-formed : (j : Job) → JobIn j → (s : ℕ) (x y : State) → WellFormed j x → next j s x ≡ some y → WellFormed j y
-unfolding next
+unfolding step
 next-well-formed j ok s x y w e =
-    let g = given-some (may j s x) (after j s x) y e in
+    let g = taken-some (may j s x) (after j s x) y e in
     subst (WellFormed j) (g .1) (after-keeps j ok x w s (g .0))
 
 run-keeps : (j : Job) → JobIn j → (u : List ℕ) (x y : State) → WellFormed j x → run (machine j) u x ≡ some y → WellFormed j y

@@ -6,9 +6,11 @@ pub mod Kinds
 pub mod Step
 pub mod Goal
 pub mod Machine
+pub mod Reasons
 pub mod File
 pub mod Slot
 pub mod Tests
+pub mod MayLaws
 pub mod Fences
 pub mod Same
 pub mod Sound
@@ -17,6 +19,7 @@ pub mod FenceCheck
 pub mod Accepted
 pub mod Asked
 pub mod Keeps
+pub mod ReasonLaws
 pub mod SlotLaws
 pub mod Jobs
 pub mod Claims

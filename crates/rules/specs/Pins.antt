@@ -1,8 +1,8 @@
 -- What 01's own list leaves open: rows beyond it, each under the rule that it pins, and single worked values. The counts and schedules were
--- worked by a checker written apart. `Worked` has the list of 01, P12 as request 8 has it, and that every row of both holds.
+-- worked by a checker written apart. `Worked` has the list of 01, with what requests 5 and 8 changed of it, and that every row of both holds.
 use mathlib.Core.Path.{_≡_, refl}
 use mathlib.Core.List.{List, [], _∷_, _++_}
-use Prim.Native.Nat.{ℕ, _+_, _^_}
+use Prim.Native.Nat.{ℕ, zero, suc, _+_, _^_}
 use lib.ListN.{set, take, replicate}
 use Rattle.reach.specs.Replay.{reaches, falls-short, stuck}
 use Rattle.rules.specs.Limits.{longest-thread, longest-file, slot-size, step-bound, most-slots}
@@ -12,9 +12,10 @@ use Rattle.rules.specs.Fences.{fenced, open-at}
 use Rattle.rules.specs.Jobs.{p1, p2, p3, p4, p5, p6, p9, p10, p12, p9-sc, p9-sc-drained, p2-drained, no-instruction, waits-apart, three-to-one, own-newest, fence-waits, exchange, jump-over, either-order, oldest-first, stored-register}
 use Rattle.rules.specs.Jobs.{exchange-between, ends-and-moves, back-around, past-a-load, next-of-two, over-a-fence}
 use Rattle.rules.specs.Jobs.{in-memory, other-registers, widest, sixty-four, sixty-five, next-door, fifty-one, down-the-stairs, fullest, too-long, cut, cut-unknown, left-over}
-use Rattle.rules.specs.Jobs.{two-lengths, lengths-turned, nine-stores, behind-a-jump, down-to-a-store, parked-store, two-stores-open, two-threads-open, last-thread-open, last-of-all, third-drains, highest-values, round-to-zero}
+use Rattle.rules.specs.Jobs.{two-lengths, lengths-turned, nine-stores, behind-a-jump, down-to-a-store, parked-store, two-stores-open, two-threads-open, last-thread-open, last-of-all, third-drains, highest-values, round-to-zero, each-reason, each-reason-sc, each-reason-pso}
 use Rattle.rules.specs.Jobs.{set-0, add-0, load-x, store-r, store-x, fence, xchg-x, jeq-to, jmp-to, alone}
-use Rattle.rules.specs.Claims.{search-reaches, search-never, search-unknown, slots-follow, links-are, fences-say, replay-says, slot-after, enabled-after, refuses, Case, case}
+use Rattle.rules.specs.Claims.{search-reaches, search-never, search-unknown, slots-follow, links-are, fences-say, replay-says, slot-after, enabled-after, withheld-after, refuses, Case, case}
+use Rattle.rules.specs.declared.Reason.the-variants.{NoSuchStep, ThreadEnded, BufferFull, BufferNotEmpty, NothingToFlush, NotTheOldest}
 
 -- P1's states up to its goal, in the order of slots, each by its first shortest schedule
 unfoldable pub p1-schedules : List (List ℕ)
@@ -55,6 +56,16 @@ p1-links =
     ∷ 513 ∷ 516 ∷ 525 ∷ 644 ∷ 653 ∷ 705 ∷ 717 ∷ 768
     ∷ []
 
+-- so many numbers from n on
+unfoldable pub count-up : (n many : ℕ) → List ℕ
+count-up n zero = []
+count-up n (suc many) = n ∷ count-up (suc n) many
+
+-- the numbers that are no step of a job of two threads and three variables: execute steps 2 and 3; of threads 0 and 1 the flushes to variables 3 to 7; all
+-- flushes of threads 2 and 3; and 36 to 255
+unfoldable pub no-steps : List ℕ
+no-steps = 2 ∷ 3 ∷ 7 ∷ 8 ∷ 9 ∷ 10 ∷ 11 ∷ count-up 15 241
+
 -- slots, job, and what it pins
 unfoldable pub pins : List Case
 pins =
@@ -93,15 +104,15 @@ pins =
     -- the same under PSO
     ∷ case 640 (set own-newest 3 0x02) (search-never 9)
     -- under TSO the oldest store is the one made first, whatever its variable; ADD and JEQ do not wait
-    ∷ case 640 waits-apart (replay-says (0x00 ∷ 0x00 ∷ 0x00 ∷ 0x00 ∷ 0x04 ∷ []) (stuck 4))
+    ∷ case 640 waits-apart (replay-says (0x00 ∷ 0x00 ∷ 0x00 ∷ 0x00 ∷ 0x04 ∷ []) (stuck 4 NotTheOldest))
     -- a FENCE waits until no store is pending, not until one is flushed
-    ∷ case 640 waits-apart (replay-says (0x00 ∷ 0x00 ∷ 0x00 ∷ 0x00 ∷ 0x05 ∷ 0x00 ∷ []) (stuck 5))
+    ∷ case 640 waits-apart (replay-says (0x00 ∷ 0x00 ∷ 0x00 ∷ 0x00 ∷ 0x05 ∷ 0x00 ∷ []) (stuck 5 BufferNotEmpty))
     -- C counts stores, not variables
-    ∷ case 640 three-to-one (replay-says (0x00 ∷ 0x00 ∷ 0x00 ∷ []) (stuck 2))
+    ∷ case 640 three-to-one (replay-says (0x00 ∷ 0x00 ∷ 0x00 ∷ []) (stuck 2 BufferFull))
     -- TSO: the ninth store waits at C 8, and none before it
-    ∷ case 640 nine-stores (replay-says (0x00 ∷ 0x00 ∷ 0x00 ∷ 0x00 ∷ 0x00 ∷ 0x00 ∷ 0x00 ∷ 0x00 ∷ 0x00 ∷ []) (stuck 8))
+    ∷ case 640 nine-stores (replay-says (0x00 ∷ 0x00 ∷ 0x00 ∷ 0x00 ∷ 0x00 ∷ 0x00 ∷ 0x00 ∷ 0x00 ∷ 0x00 ∷ []) (stuck 8 BufferFull))
     -- PSO likewise
-    ∷ case 640 (set nine-stores 3 0x02) (replay-says (0x00 ∷ 0x00 ∷ 0x00 ∷ 0x00 ∷ 0x00 ∷ 0x00 ∷ 0x00 ∷ 0x00 ∷ 0x00 ∷ []) (stuck 8))
+    ∷ case 640 (set nine-stores 3 0x02) (replay-says (0x00 ∷ 0x00 ∷ 0x00 ∷ 0x00 ∷ 0x00 ∷ 0x00 ∷ 0x00 ∷ 0x00 ∷ 0x00 ∷ []) (stuck 8 BufferFull))
     -- a FENCE waits, and the flush is a step of its own
     ∷ case 640 fence-waits (search-reaches 4 (0x00 ∷ 0x04 ∷ 0x00 ∷ []))
     -- XCHG waits, with C 1, and both sides change
@@ -141,11 +152,97 @@ pins =
     -- not by a goal on the way; "at place p" is not "at p or behind it"
     ∷ case 640 fullest (replay-says (0x00 ∷ []) falls-short)
     -- the first step that is stuck counts
-    ∷ case 640 p10 (replay-says (0x00 ∷ 0x00 ∷ 0x00 ∷ []) (stuck 1))
+    ∷ case 640 p10 (replay-says (0x00 ∷ 0x00 ∷ 0x00 ∷ []) (stuck 1 BufferFull))
     -- no number above 35 is a step where there is something to flush
-    ∷ case 640 p10 (replay-says (0x00 ∷ 0x24 ∷ []) (stuck 1))
+    ∷ case 640 p10 (replay-says (0x00 ∷ 0x24 ∷ []) (stuck 1 NoSuchStep))
     -- an ended thread executes nothing
-    ∷ case 640 p10 (replay-says (0x00 ∷ 0x04 ∷ 0x00 ∷ 0x00 ∷ []) (stuck 3))
+    ∷ case 640 p10 (replay-says (0x00 ∷ 0x04 ∷ 0x00 ∷ 0x00 ∷ []) (stuck 3 ThreadEnded))
+    -- Request 5. Each reason under each model where it can come up, and of two that could both apply the earlier. "No such step": threads from T up,
+    -- variables from V up of any thread, all numbers above 35. An absent thread, which is at place 0 and has no instructions, is not given as
+    -- "ended", and its flushes not as "nothing to flush".
+    ∷ case 640 each-reason (withheld-after [] no-steps NoSuchStep)
+    -- under SC too
+    ∷ case 640 each-reason-sc (withheld-after [] no-steps NoSuchStep)
+    -- under PSO
+    ∷ case 640 each-reason-pso (withheld-after [] no-steps NoSuchStep)
+    -- where other steps are withheld for other reasons
+    ∷ case 640 each-reason (withheld-after (0x00 ∷ 0x00 ∷ 0x01 ∷ []) no-steps NoSuchStep)
+    -- the same under PSO
+    ∷ case 640 each-reason-pso (withheld-after (0x00 ∷ 0x00 ∷ 0x01 ∷ []) no-steps NoSuchStep)
+    -- one thread and one variable
+    ∷ case 640 p10 (withheld-after [] ((1 ∷ 2 ∷ 3 ∷ []) ++ count-up 5 251) NoSuchStep)
+    -- four threads and eight variables: the numbers above 35
+    ∷ case 640 widest (withheld-after [] (count-up 36 220) NoSuchStep)
+    -- and no other: each flush has nothing to flush
+    ∷ case 640 widest (withheld-after [] (count-up 4 32) NothingToFlush)
+    -- "thread ended": place n. TSO
+    ∷ case 640 each-reason (withheld-after (0x01 ∷ 0x0E ∷ 0x01 ∷ []) (0x01 ∷ []) ThreadEnded)
+    -- SC
+    ∷ case 640 each-reason-sc (replay-says (0x01 ∷ 0x01 ∷ 0x01 ∷ []) (stuck 2 ThreadEnded))
+    -- PSO
+    ∷ case 640 each-reason-pso (withheld-after (0x01 ∷ 0x0E ∷ 0x01 ∷ []) (0x01 ∷ []) ThreadEnded)
+    -- also with C stores pending: an ended thread waits for nothing
+    ∷ case 640 each-reason (withheld-after (0x00 ∷ 0x00 ∷ 0x05 ∷ 0x00 ∷ []) (0x00 ∷ []) ThreadEnded)
+    -- the same under PSO
+    ∷ case 640 each-reason-pso (withheld-after (0x00 ∷ 0x00 ∷ 0x05 ∷ 0x00 ∷ []) (0x00 ∷ []) ThreadEnded)
+    -- of a thread without instructions, at the start
+    ∷ case 640 no-instruction (withheld-after [] (0x00 ∷ []) ThreadEnded)
+    -- "buffer full": a store with C pending. TSO
+    ∷ case 640 each-reason (withheld-after (0x00 ∷ 0x00 ∷ []) (0x00 ∷ []) BufferFull)
+    -- PSO, with two variables pending
+    ∷ case 640 each-reason-pso (withheld-after (0x00 ∷ 0x00 ∷ []) (0x00 ∷ []) BufferFull)
+    -- a store of a register
+    ∷ case 640 (set (set each-reason 19 0x04) 22 0x00) (withheld-after (0x00 ∷ 0x00 ∷ []) (0x00 ∷ []) BufferFull)
+    -- never under SC: thread 0 comes to its end
+    ∷ case 640 each-reason-sc (replay-says (0x00 ∷ 0x00 ∷ 0x00 ∷ []) falls-short)
+    -- "buffer not empty": FENCE. TSO
+    ∷ case 640 each-reason (withheld-after (0x01 ∷ []) (0x01 ∷ []) BufferNotEmpty)
+    -- PSO
+    ∷ case 640 each-reason-pso (withheld-after (0x01 ∷ []) (0x01 ∷ []) BufferNotEmpty)
+    -- XCHG, with room left
+    ∷ case 640 (set exchange 4 0x02) (withheld-after (0x00 ∷ 0x00 ∷ []) (0x00 ∷ []) BufferNotEmpty)
+    -- XCHG under PSO
+    ∷ case 640 (set (set exchange 3 0x02) 4 0x02) (withheld-after (0x00 ∷ 0x00 ∷ []) (0x00 ∷ []) BufferNotEmpty)
+    -- neither waits for room: with C stores pending the buffer is "not empty", not "full". XCHG
+    ∷ case 640 exchange (withheld-after (0x00 ∷ 0x00 ∷ []) (0x00 ∷ []) BufferNotEmpty)
+    -- FENCE
+    ∷ case 640 p9 (withheld-after (0x00 ∷ []) (0x00 ∷ []) BufferNotEmpty)
+    -- FENCE under PSO
+    ∷ case 640 (set p9 3 0x02) (withheld-after (0x00 ∷ []) (0x00 ∷ []) BufferNotEmpty)
+    -- "nothing to flush": no store of t to v is pending, here none at all. TSO
+    ∷ case 640 each-reason (replay-says (0x0D ∷ []) (stuck 0 NothingToFlush))
+    -- every flush
+    ∷ case 640 each-reason (withheld-after [] (0x04 ∷ 0x05 ∷ 0x06 ∷ 0x0C ∷ 0x0D ∷ 0x0E ∷ []) NothingToFlush)
+    -- SC, always: after stores too
+    ∷ case 640 each-reason-sc (withheld-after (0x00 ∷ 0x00 ∷ []) (0x04 ∷ 0x05 ∷ 0x06 ∷ 0x0C ∷ 0x0D ∷ 0x0E ∷ []) NothingToFlush)
+    -- PSO
+    ∷ case 640 each-reason-pso (withheld-after [] (0x04 ∷ 0x05 ∷ 0x06 ∷ 0x0C ∷ 0x0D ∷ 0x0E ∷ []) NothingToFlush)
+    -- TSO, with y and x pending and none to z: not "not the oldest"; and what thread 0 has pending is not thread 1's
+    ∷ case 640 each-reason (withheld-after (0x00 ∷ 0x00 ∷ []) (0x06 ∷ 0x0C ∷ 0x0D ∷ 0x0E ∷ []) NothingToFlush)
+    -- PSO, the same
+    ∷ case 640 each-reason-pso (withheld-after (0x00 ∷ 0x00 ∷ []) (0x06 ∷ 0x0C ∷ 0x0D ∷ 0x0E ∷ []) NothingToFlush)
+    -- of a thread that waits at a FENCE with z pending, the flushes to x and y
+    ∷ case 640 each-reason (withheld-after (0x01 ∷ []) (0x0C ∷ 0x0D ∷ []) NothingToFlush)
+    -- an ended thread still flushes, so it is given as "nothing to flush" and not as "ended". TSO
+    ∷ case 640 each-reason (withheld-after (0x01 ∷ 0x0E ∷ 0x01 ∷ []) (0x0C ∷ 0x0D ∷ 0x0E ∷ []) NothingToFlush)
+    -- SC
+    ∷ case 640 each-reason-sc (withheld-after (0x01 ∷ 0x01 ∷ []) (0x0C ∷ 0x0D ∷ 0x0E ∷ []) NothingToFlush)
+    -- PSO
+    ∷ case 640 each-reason-pso (withheld-after (0x01 ∷ 0x0E ∷ 0x01 ∷ []) (0x0C ∷ 0x0D ∷ 0x0E ∷ []) NothingToFlush)
+    -- TSO, with others pending
+    ∷ case 640 (set each-reason 4 0x03) (withheld-after (0x00 ∷ 0x00 ∷ 0x00 ∷ []) (0x06 ∷ []) NothingToFlush)
+    -- "not the oldest": TSO, x is pending behind y. (That a thread or variable that the job doesn't have is pending behind another, no job comes to.)
+    ∷ case 640 each-reason (withheld-after (0x00 ∷ 0x00 ∷ []) (0x04 ∷ []) NotTheOldest)
+    -- also of a thread that has ended, x twice
+    ∷ case 640 (set each-reason 4 0x03) (withheld-after (0x00 ∷ 0x00 ∷ 0x00 ∷ []) (0x04 ∷ []) NotTheOldest)
+    -- y is the oldest, and stands again behind x: it may be flushed
+    ∷ case 640 (set (set each-reason 4 0x03) 21 0x01) (enabled-after (0x00 ∷ 0x00 ∷ 0x00 ∷ []) (2 ^ 1 + 2 ^ 5))
+    -- bit s is 0 exactly when step s has a reason. TSO: x behind y
+    ∷ case 640 each-reason (enabled-after (0x00 ∷ 0x00 ∷ []) (2 ^ 1 + 2 ^ 5))
+    -- PSO never has "not the oldest": both may be flushed
+    ∷ case 640 each-reason-pso (enabled-after (0x00 ∷ 0x00 ∷ []) (2 ^ 1 + 2 ^ 4 + 2 ^ 5))
+    -- SC: no flush, and no store waits
+    ∷ case 640 each-reason-sc (enabled-after (0x00 ∷ 0x00 ∷ []) (2 ^ 0 + 2 ^ 1))
     -- the slot order: the R(d) counted states of a goal that can be reached
     ∷ case 640 p1 (slots-follow p1-schedules)
     -- "64 times the slot of the state before the last step of that schedule, plus that step"; link 0
@@ -267,7 +364,7 @@ pins =
     -- the slot has place 64
     ∷ case 640 sixty-four (slot-after (replicate 64 0x00) ((64 ∷ []) ++ replicate 95 0))
     -- place 64 of thread 2 is its end, and not thread 3's place 0
-    ∷ case 640 fullest (replay-says (replicate 65 0x02) (stuck 64))
+    ∷ case 640 fullest (replay-says (replicate 65 0x02) (stuck 64 ThreadEnded))
     -- JMP to place 64
     ∷ case 640 (set (set sixty-four 9 0x09) 11 0x40) (search-reaches 2 (0x00 ∷ []))
     -- JEQ to place 64

@@ -4,14 +4,13 @@ use mathlib.Core.Bool.{Bool, true, false, _&&_}
 use mathlib.Core.List.{List, [], _∷_}
 use mathlib.Core.Option.{none}
 use Prim.Native.Nat.{ℕ, _≤_}
-use native.Mathlib.Omega.{arith}
 use lib.Dec.{T, eqb, eqb→eq, eqb-refl}
-use borrow.Author.Tests.{le-ltb}
 use Rattle.reach.specs.Searchable.{Searchable}
-use Rattle.rules.specs.Limits.{step-bound, most-threads}
+use Rattle.rules.specs.Limits.{step-bound}
 use Rattle.rules.specs.State.{Pending, State}
 use Rattle.rules.specs.Job.{Job}
-use Rattle.rules.specs.Step.{may, next}
+use Rattle.rules.specs.Step.{step, next}
+use Rattle.rules.specs.MayLaws.{none-from-bound}
 use Rattle.rules.specs.Machine.{machine}
 use Rattle.rules.specs.Tests.{both, of-both, four, of-four}
 
@@ -90,10 +89,8 @@ same-state-refl x =
 
 -- no step has a number from the bound upwards
 pub none-beyond : (j : Job) (s : ℕ) (x : State) → step-bound ≤ s → next j s x ≡ none
-unfolding next may
-none-beyond j s x h =
-    let low : most-threads ≤ s = omega arith in
-    rw (le-ltb _ _ low, le-ltb _ _ h)
+unfolding step
+none-beyond j s x h = rw (none-from-bound j x s h)
 
 abbrev pub searchable : Job → Searchable
 searchable j =

@@ -1,4 +1,4 @@
--- One step of the machine under each model: 01, "The machine" and "Memory rules". Rules i to vii are those of source document 003, of a TSO buffer; under SC and PSO 01 changes iv and v.
+-- One step of the machine under each model, and why it can't be taken: 01, "The machine" and "Memory rules", and request 5. Rules i to vii are those of source document 003, of a TSO buffer; under SC and PSO 01 changes iv and v.
 use mathlib.Core.Bool.{Bool, true, false, cond, _&&_, _||_}
 use mathlib.Core.List.{List, [], _∷_, _++_}
 use mathlib.Core.Option.{Option, none, some}
@@ -6,6 +6,7 @@ use Prim.Native.Nat.{ℕ, zero, suc, _+_, _-_, _/_, _%_, _^_}
 use lib.Dec.{eqb, ltb, leb}
 use lib.ListN.{length, getElem?}
 use Rattle.reach.specs.System.{andThen}
+use Rattle.reach.specs.Explained.{Stepped, gives, withheld, forget}
 use Rattle.rules.specs.Limits.{values, most-threads, most-variables, step-bound}
 use Rattle.rules.specs.State.{Pending, State, place, register, variable, buffer, with-place, with-register, with-variable, with-buffer}
 use Rattle.rules.specs.Job.{Job}
@@ -20,6 +21,10 @@ use Rattle.rules.specs.declared.Control.{Control}
 use Rattle.rules.specs.declared.Control.the-variants.{On, To, ToIf}
 use Rattle.rules.specs.declared.Wait.{Wait}
 use Rattle.rules.specs.declared.Wait.the-variants.{Never, ForRoom, UntilEmpty}
+use Rattle.rules.specs.declared.Reason.{Reason}
+use Rattle.rules.specs.declared.Reason.the-variants.{NoSuchStep, ThreadEnded, BufferFull, BufferNotEmpty, NothingToFlush, NotTheOldest}
+use Rattle.rules.specs.declared.May.{May}
+use Rattle.rules.specs.declared.May.the-variants.{Yes, No}
 
 -- what is given if the test holds
 abbrev pub given : {A : Type 0} → Bool → A → Option A
@@ -51,7 +56,24 @@ unfoldable pub is-empty : List Pending → Bool
 is-empty [] = true
 is-empty (p ∷ b) = false
 
--- Which steps may be taken: decided here alone.
+-- Which steps may be taken, and why the others may not: decided here alone. Each reason stands beside the rule that withholds the step. That the
+-- reason given is the first that applies, in the request's order, is a theorem (`Reasons` `FirstThatApplies`, `ReasonLaws` `withheld-first`).
+
+-- a rule asks for this, else it withholds the step for that reason
+abbrev pub needs : Bool → Reason → May
+needs true why = Yes
+needs false why = No why
+
+-- does it let the step pass?
+abbrev pub is-yes : May → Bool
+is-yes Yes = true
+is-yes (No why) = false
+
+-- one rule, and then another
+infixr 4 _then_
+abbrev pub _then_ : May → May → May
+Yes then rule = rule
+No why then rule = No why
 
 -- SC: "Stores go straight to memory." TSO: "it waits while C stores are pending". PSO: "C counts all of a thread's pending stores."
 unfoldable pub has-room : Model → (capacity : ℕ) → List Pending → Bool
@@ -59,15 +81,15 @@ has-room Sc capacity b = true
 has-room Tso capacity b = ltb (length b) capacity
 has-room Pso capacity b = ltb (length b) capacity
 
--- what an instruction waits for is there, if these stores of its thread are pending
-unfoldable pub free : Model → (capacity : ℕ) → Wait → List Pending → Bool
-free m capacity Never b = true
-free m capacity ForRoom b = has-room m capacity b
-free m capacity UntilEmpty b = is-empty b
+-- What an instruction waits for in its thread's buffer. A store: "buffer full". FENCE and XCHG: "buffer not empty".
+unfoldable pub free : Model → (capacity : ℕ) → Wait → List Pending → May
+free m capacity Never b = Yes
+free m capacity ForRoom b = needs (has-room m capacity b) BufferFull
+free m capacity UntilEmpty b = needs (is-empty b) BufferNotEmpty
 
--- "An ended or waiting thread has no execute step": there is no instruction at place n, and none for a thread that the job doesn't have
-unfoldable pub may-execute : Model → (capacity : ℕ) → Option Instr → List Pending → Bool
-may-execute m capacity none b = false
+-- "An ended or waiting thread has no execute step": at place n there is no instruction, "thread ended"
+unfoldable pub may-execute : Model → (capacity : ℕ) → Option Instr → List Pending → May
+may-execute m capacity none b = No ThreadEnded
 may-execute m capacity (some i) b = free m capacity (wait-of i) b
 
 -- is a store to v pending?
@@ -81,10 +103,11 @@ is-oldest-to v [] = false
 is-oldest-to v (p ∷ b) = eqb (p .variable) v
 
 -- SC: "No flush steps." TSO: "only the oldest store's v is enabled". PSO: "the oldest pending store to a chosen variable". "Ended threads still flush."
-unfoldable pub may-flush : Model → ℕ → List Pending → Bool
-may-flush Sc v b = false
-may-flush Tso v b = is-oldest-to v b
-may-flush Pso v b = is-pending-to v b
+-- Where none is pending to v, as always under SC: "nothing to flush". Where one is, but behind another: "not the oldest".
+unfoldable pub may-flush : Model → ℕ → List Pending → May
+may-flush Sc v b = No NothingToFlush
+may-flush Tso v b = needs (is-pending-to v b) NothingToFlush then needs (is-oldest-to v b) NotTheOldest
+may-flush Pso v b = needs (is-pending-to v b) NothingToFlush
 
 -- What a step does, once it may be taken.
 
@@ -143,12 +166,31 @@ flush-thread s = (s - most-threads) / most-variables
 unfoldable pub flush-variable : ℕ → ℕ
 flush-variable s = (s - most-threads) % most-variables
 
--- may step s be taken?
-unfoldable pub may : Job → ℕ → State → Bool
+-- The job has threads below T and variables below V.
+unfoldable pub has-thread : Job → ℕ → Bool
+has-thread j t = ltb t (length (j .threads))
+
+unfoldable pub has-variable : Job → ℕ → Bool
+has-variable j v = ltb v (length (j .initial))
+
+-- an execute step: "no such step" of threads from T up; then what the thread and its buffer say
+unfoldable pub may-execute-of : Job → (t : ℕ) → State → May
+may-execute-of j t x =
+    needs (has-thread j t) NoSuchStep
+    then may-execute (j .model) (j .capacity) (instruction-at j t (place t x)) (buffer t x)
+
+-- a flush step: "no such step" of threads from T up and to variables from V up; then what the buffer says
+unfoldable pub may-flush-of : Job → (t v : ℕ) → State → May
+may-flush-of j t v x =
+    needs (has-thread j t && has-variable j v) NoSuchStep
+    then may-flush (j .model) v (buffer t x)
+
+-- may step s be taken, and why not? "No such step" of numbers above 35.
+unfoldable pub may : Job → ℕ → State → May
 may j s x =
     cond (ltb s most-threads)
-    (may-execute (j .model) (j .capacity) (instruction-at j s (place s x)) (buffer s x))
-    (ltb s step-bound && may-flush (j .model) (flush-variable s) (buffer (flush-thread s) x))
+    (may-execute-of j s x)
+    (needs (ltb s step-bound) NoSuchStep then may-flush-of j (flush-thread s) (flush-variable s) x)
 
 -- the state after instruction i of thread t, if there is one
 unfoldable pub after-execute : Model → (t : ℕ) → Option Instr → State → State
@@ -162,14 +204,23 @@ after j s x =
     (after-execute (j .model) s (instruction-at j s (place s x)) x)
     (flushed (flush-thread s) (flush-variable s) x)
 
--- a step: the state after it, or none if it may not be taken
-unfoldable pub next : Job → ℕ → State → Option State
-next j s x = given (may j s x) (after j s x)
+-- y if the step may be taken, else the reason
+abbrev pub by-may : May → State → Stepped State Reason
+by-may Yes y = gives y
+by-may (No why) y = withheld why
 
--- "The enabled steps are one 64-bit number; bit s is set when step s may be taken."
-abbrev pub bit : Bool → ℕ → ℕ
-bit true s = 2 ^ s
-bit false s = 0
+-- a step: the state after it, or the reason why it may not be taken
+unfoldable pub step : Job → ℕ → State → Stepped State Reason
+step j s x = by-may (may j s x) (after j s x)
+
+-- the state after a step or none, the reason forgotten: a search asks for no more
+abbrev pub next : Job → ℕ → State → Option State
+next j s x = forget (step j s x)
+
+-- "The enabled steps are one 64-bit number; bit s is set when step s may be taken": 0 exactly when it has a reason.
+abbrev pub bit : May → ℕ → ℕ
+bit Yes s = 2 ^ s
+bit (No why) s = 0
 
 unfoldable pub enabled-below : Job → State → ℕ → ℕ
 enabled-below j x zero = 0

@@ -61,9 +61,6 @@ pub const BUFFER_SIZE: usize = 1 + PAIRS_SIZE;
 
 pub const SLOT_SIZE: usize = THREADS + ALL_REGISTERS + VARIABLES + THREADS * BUFFER_SIZE;
 
-// "t (0 to 3) executes one instruction of thread t; 4 + 8t + v flushes thread t's store to v": step numbers end before 36.
-pub const STEP_BOUND: u8 = MOST_THREADS + MOST_THREADS * MOST_VARIABLES;
-
 // "N is the smallest of table bytes / 96 rounded down, links, schedule bytes, and 65,536"
 pub const MOST_SLOTS: usize = 65536;
 
@@ -104,6 +101,22 @@ pub enum Wait {
     Never,
     ForRoom,
     UntilEmpty,
+}
+
+// Why a step can't be taken, in the order in which the first that applies is given: request 5.
+pub enum Reason {
+    NoSuchStep,
+    ThreadEnded,
+    BufferFull,
+    BufferNotEmpty,
+    NothingToFlush,
+    NotTheOldest,
+}
+
+// Whether a step may be taken, and why not.
+pub enum May {
+    Yes,
+    No(Reason),
 }
 
 // What an instruction is to the fence check: 01, "Replay and fence check".

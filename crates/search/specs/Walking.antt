@@ -1,16 +1,15 @@
 -- The steps of one state, by the mask of those that may be taken: its lowest bit is the next step, and what is passed over may not be taken.
 use mathlib.Core.Path.{_≡_, refl, sym, _∙_, ap, subst}
-use mathlib.Core.Bool.{Bool, true, false}
-use mathlib.Core.List.{List}
-use mathlib.Core.Option.{Option, none, some}
+use mathlib.Core.Bool.{true}
+use mathlib.Core.Option.{none, some}
 use Prim.Native.Nat.{ℕ, zero, suc, _+_, _^_, _≤_, _<_}
 use native.Mathlib.Omega.{arith}
 use native.Mathlib.Decide.{decLt}
-use Rattle.bits.specs.Bits.{width, bit-of, Has, lowest-of, count-of, Lowest, WithoutLowest, Counted}
+use Rattle.bits.specs.Bits.{width, bit-of, lowest-of, count-of, Lowest, WithoutLowest, Counted}
 use Rattle.bits.specs.BitLaws.{bit-of-zero, count-law}
+use Rattle.reach.specs.Explained.{forget}
 use Rattle.reach.specs.Meaning.{link}
 use Rattle.reach.specs.RunLaws.{step-below}
-use Rattle.lent.specs.Coding.{Coding}
 use Rattle.lent.specs.Parts.{Memory, Put, Stands, Tried, Expanded}
 use Rattle.lent.specs.Tries.{tried-start, tried-step, tried-skip, tried-full}
 use Rattle.rules.specs.Limits.{step-bound, slot-size}
@@ -18,8 +17,9 @@ use Rattle.rules.specs.State.{State}
 use Rattle.rules.specs.Job.{Job}
 use Rattle.rules.specs.Slot.{slot-bytes}
 use Rattle.rules.specs.Same.{searchable}
-use Rattle.rules.specs.Step.{given, may, after, next, enabled}
-use Rattle.engine.specs.Mask.{enabled-fits, enabled-may, may-enabled}
+use Rattle.rules.specs.Step.{may, after, step, next, enabled}
+use Rattle.rules.specs.declared.May.the-variants.{Yes}
+use Rattle.engine.specs.Mask.{enabled-fits, enabled-may, zero-exactly}
 use Rattle.search.specs.Coded.{coding}
 
 module _ (j : Job) (N q : ℕ) (x : State) where
@@ -47,12 +47,7 @@ module _ (j : Job) (N q : ℕ) (x : State) where
 
   -- a step that is not in the mask may not be taken
   not-enabled : (s : ℕ) → bit-of (enabled j x) s ≡ 0 → next j s x ≡ none
-  unfolding next
-  not-enabled s off = which (may j s x) refl
-    where
-      which : (b : Bool) → may j s x ≡ b → given b (after j s x) ≡ none
-      which true e = absurd (omega (arith, may-enabled j x s e))
-      which false e = refl
+  not-enabled s off = ap forget (zero-exactly j x s .0 off .1)
 
   module _ (tries : ℕ) (e e′ : Memory) (left tried : ℕ) (w : Walking tries e e′ left tried) where
     -- something is left while not all were tried
@@ -72,13 +67,13 @@ module _ (j : Job) (N q : ℕ) (x : State) where
           which (yes h) = absurd (omega (arith, low .set any, w .gone s h))
           which (no h) = omega arith
 
-      pub step-may : may j s x ≡ true
+      pub step-may : may j s x ≡ Yes
       step-may = enabled-may j x s (sym (w .kept s not-below) ∙ low .set any)
 
       pub walking-step :
           (left′ : ℕ) → WithoutLowest left left′ → (e″ : Memory) → Put slot-size N e′ (slot-bytes (after j s x)) (link q s) e″ →
           Walking tries e e″ left′ (tried + 1)
-      unfolding next
+      unfolding step
       walking-step left′ rest e″ put =
           let to-step = tried-skip (coding j) N q x (w .below) s e e′ not-below (λ k a b. not-enabled k (sym (w .kept k a) ∙ low .least k b)) (w .done) in
           let leads : next j s x ≡ some (after j s x) = rw step-may in

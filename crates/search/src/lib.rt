@@ -4,7 +4,6 @@ use job::Layout;
 use shelf::Front;
 use state::State;
 ghost use mathlib.Core.Path.{_≡_};
-ghost use mathlib.Core.Bool.{true};
 ghost use Prim.Native.Nat.{ℕ, _*_, _≤_, _<_};
 ghost use lib.ListN.{length};
 ghost use Rattle.reach.specs.Meaning.{link};
@@ -16,6 +15,7 @@ ghost use Rattle.rules.specs.Limits.{slot-size, most-slots};
 ghost use Rattle.rules.specs.File.{job-of};
 ghost use Rattle.rules.specs.Slot.{slot-bytes};
 ghost use Rattle.rules.specs.Step.{may, after};
+ghost use Rattle.rules.specs.declared.May.the-variants.{Yes};
 ghost use Rattle.rules.specs.Machine.{machine};
 ghost use Rattle.job.specs.Laid.{IsAccepted};
 ghost use Rattle.state.specs.Held.{held};
@@ -47,7 +47,7 @@ fn put_next(
     requires { ⌜ Fits slot-size slots (now table) (now links) front ⌝ }
     requires { ⌜ q < most-slots ⌝ }
     requires { ⌜ At (now job) l x ⌝ }
-    requires { ⌜ may (job-of (now job)) s (held x) ≡ true ⌝ }
+    requires { ⌜ may (job-of (now job)) s (held x) ≡ Yes ⌝ }
     ensures { λ r. ⌜
         PutDone slot-size slots (now (table .entry)) (now (links .entry)) front
         (slot-bytes (after (job-of (now (job .entry))) s (held x))) (link q s) (now (table .exit)) (now (links .exit)) r

@@ -1,7 +1,6 @@
 -- Under SC nothing is ever pending, and what one instruction of a thread does is `executed-does`.
 use mathlib.Core.Path.{_≡_, refl, _∙_, subst}
 use mathlib.Core.Logic.{_⊎_, inl, inr}
-use mathlib.Core.Bool.{true, false≢true}
 use mathlib.Core.List.{List, []}
 use mathlib.Core.Option.{some}
 use Prim.Native.Nat.{ℕ, _<_}
@@ -14,6 +13,8 @@ use Rattle.rules.specs.Job.{Job, start}
 use Rattle.rules.specs.Kinds.{wait-of}
 use Rattle.rules.specs.Step.{has-room, free, is-empty, may-flush, executed, next}
 use Rattle.rules.specs.Sound.{JobIn}
+use Rattle.rules.specs.MayLaws.{no-is-not-yes}
+use Rattle.rules.specs.declared.May.the-variants.{Yes}
 use Rattle.rules.specs.declared.Model.the-variants.{Sc}
 use Rattle.rules.specs.declared.Wait.{Wait}
 use Rattle.rules.specs.declared.Wait.the-variants.{Never, ForRoom, UntilEmpty}
@@ -39,7 +40,7 @@ unfolding start
 start-calm j = record { sized = record { places = refl; registers = refl; buffers = refl }; empty = refl }
 
 -- under SC nothing waits for an empty buffer
-empty-free : (w : Wait) (b : List Pending) → b ≡ [] → free Sc 0 w b ≡ true
+empty-free : (w : Wait) (b : List Pending) → b ≡ [] → free Sc 0 w b ≡ Yes
 unfolding free has-room is-empty
 empty-free Never b e = refl
 empty-free ForRoom b e = refl
@@ -62,7 +63,7 @@ module _ (j : Job) (ok : JobIn j) where
     where
       which : Ran (under Sc 0 j) s x y ⊎ ((t : ℕ) × (v : ℕ) × Flushed (under Sc 0 j) t v x y) → Ran (under Sc 0 j) s x y
       which (inl r) = r
-      which (inr f) = absurd (false≢true (f .2 .may))
+      which (inr f) = absurd (no-is-not-yes (f .2 .may))
 
   pub sc-calm : (s : ℕ) (x y : State) → Calm x → next (under Sc 0 j) s x ≡ some y → Calm y
   sc-calm s x y k e =

@@ -1,6 +1,5 @@
 -- Each step under SC is one under TSO, and a store is a store and its flush.
 use mathlib.Core.Path.{_≡_, refl, sym, _∙_, ap, subst}
-use mathlib.Core.Bool.{true}
 use mathlib.Core.List.{List, [], _∷_, _++_}
 use mathlib.Core.Option.{some}
 use Prim.Native.Nat.{ℕ, _*_, _+_, _≤_, _<_}
@@ -8,15 +7,17 @@ use native.Mathlib.Omega.{arith}
 use lib.ListN.{length, set, getElem?}
 use lib.Seq.{getD-set-same, set-set, set-getD}
 use borrow.Author.Tests.{lt-ltb, eq-eqb}
+use Rattle.reach.specs.ListLaws.{at-below}
 use Rattle.reach.specs.System.{run}
 use Rattle.reach.specs.RunLaws.{andThen-some}
 use Rattle.rules.specs.Limits.{most-threads, most-variables}
 use Rattle.rules.specs.State.{Pending, State, place, buffer, with-place, with-variable, with-buffer}
 use Rattle.rules.specs.Job.{Job}
 use Rattle.rules.specs.Kinds.{control-of, wait-of}
-use Rattle.rules.specs.Step.{oldest-to, without-oldest-to, is-empty, has-room, free, is-oldest-to, may-flush, carried, stored, changed, place-after, executed, flushed, next}
+use Rattle.rules.specs.Step.{oldest-to, without-oldest-to, is-empty, has-room, free, is-pending-to, is-oldest-to, may-flush, carried, stored, changed, place-after, executed, flushed, next}
 use Rattle.rules.specs.Machine.{machine}
 use Rattle.rules.specs.Sound.{JobIn}
+use Rattle.rules.specs.declared.May.the-variants.{Yes}
 use Rattle.rules.specs.declared.Model.the-variants.{Sc, Tso}
 use Rattle.rules.specs.declared.Wait.{Wait}
 use Rattle.rules.specs.declared.Wait.the-variants.{Never, ForRoom, UntilEmpty}
@@ -25,12 +26,12 @@ use Rattle.rules.specs.declared.Instr.{Instr}
 use Rattle.rules.specs.declared.Instr.the-variants.{Store}
 use Rattle.signed.specs.Under.{under}
 use Rattle.signed.specs.Roles.{Alike, ByRole, is-store, is-load, is-wait, is-quiet, by-role}
-use Rattle.signed.specs.Steps.{run-then, code, instr-in, next-runs, next-flushes}
+use Rattle.signed.specs.Steps.{run-then, code, code-there, instr-in, next-runs, next-flushes}
 use Rattle.signed.specs.Calm.{Calm, calm-buffer, sc-ran, sc-calm}
 
 module _ (j : Job) (ok : JobIn j) (c : ℕ) (room : 1 ≤ c) where
   -- with nothing pending there is room, and nothing to wait for
-  nothing-waits : (w : Wait) (b : List Pending) → b ≡ [] → free Tso c w b ≡ true
+  nothing-waits : (w : Wait) (b : List Pending) → b ≡ [] → free Tso c w b ≡ Yes
   unfolding free has-room is-empty
   nothing-waits Never b e = refl
   nothing-waits ForRoom b e = rw (e, lt-ltb 0 c room)
@@ -62,12 +63,14 @@ module _ (j : Job) (ok : JobIn j) (c : ℕ) (room : 1 ≤ c) where
         rw (pending a v, eq-eqb v v refl, set-set, back)
 
     two-steps : (a : Source) (v : ℕ) → getElem? (code j t) (place t x) ≡ some (Store a v) → ByTso x (executed Sc t (Store a v) x)
-    unfolding may-flush is-oldest-to
+    unfolding may-flush is-pending-to is-oldest-to
     two-steps a v at =
-        let small : v < most-variables = omega (arith, instr-in j ok t (place t x) (Store a v) at .1, ok .variables-most) in
-        let first : may-flush Tso v (buffer t (executed Tso t (Store a v) x)) ≡ true = rw (pending a v, eq-eqb v v refl) in (
-          t ∷ (most-threads + (most-variables * t + v)) ∷ [],
-          rw (tso-next (Store a v) at, next-flushes (under Tso c j) t v _ low small first, flushes a v),
+        let used : v < length (j .initial) = instr-in j ok t (place t x) (Store a v) at .1 in
+        let small : v < most-variables = omega (arith, used, ok .variables-most) in
+        let there : t < length (j .threads) = at-below (j .threads) t (code j t) (code-there j t (place t x) (Store a v) at) in
+        let first : may-flush Tso v (buffer t (executed Tso t (Store a v) x)) ≡ Yes = rw (pending a v, eq-eqb v v refl) in (
+          t ∷ (most-threads + most-variables * t + v) ∷ [],
+          rw (tso-next (Store a v) at, next-flushes (under Tso c j) t v _ low small there used first, flushes a v),
         )
 
     -- only a store differs

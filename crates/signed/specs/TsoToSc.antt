@@ -16,11 +16,14 @@ use Rattle.rules.specs.Limits.{most-threads}
 use Rattle.rules.specs.State.{Pending, State, place, buffer, with-variable, with-buffer}
 use Rattle.rules.specs.Job.{Job}
 use Rattle.rules.specs.Kinds.{control-of, wait-of, role-of}
-use Rattle.rules.specs.Step.{oldest-to, without-oldest-to, is-empty, free, is-oldest-to, may-flush, carried, stored, changed, place-after, executed, flushed, next}
+use Rattle.rules.specs.Step.{oldest-to, without-oldest-to, is-empty, needs, free, is-pending-to, is-oldest-to, may-flush, carried, stored, changed, place-after, executed, flushed, next}
 use Rattle.rules.specs.Machine.{machine}
 use Rattle.rules.specs.Fences.{Unfenced, Open, fenced, ChecksTo}
 use Rattle.rules.specs.FenceCheck.{role-there}
 use Rattle.rules.specs.Sound.{JobIn}
+use Rattle.rules.specs.MayLaws.{no-is-not-yes, needs-yes, then-yes}
+use Rattle.rules.specs.declared.May.the-variants.{Yes}
+use Rattle.rules.specs.declared.Reason.the-variants.{NothingToFlush, NotTheOldest}
 use Rattle.rules.specs.declared.Model.the-variants.{Sc, Tso}
 use Rattle.rules.specs.declared.Role.the-variants.{Loads}
 use Rattle.rules.specs.declared.Source.{Source}
@@ -155,14 +158,14 @@ module _ (j : Job) (ok : JobIn j) (t : ℕ) (low : t < most-threads) (x y : Stat
 
   module _ (passes : ChecksTo (j .threads) fenced) (live : AllLive j x) (capacity : ℕ) where
     -- what the role of the instruction allows: with a store pending a load would be open, and a fence waits
-    step-of : (i : Instr) → ByRole i → getElem? (code j t) (place t y) ≡ some i → free Tso capacity (wait-of i) (buffer t y) ≡ true
+    step-of : (i : Instr) → ByRole i → getElem? (code j t) (place t y) ≡ some i → free Tso capacity (wait-of i) (buffer t y) ≡ Yes
         → (b : List Pending) → buffer t y ≡ b → Follows j x (executed Tso t i y)
     unfolding executed free is-empty
     step-of i (is-store a v) at may b e = store-step a v at
     step-of i (is-load role alike) at may [] e = rw (alike Tso Sc t y) (both-step i at e)
     step-of i (is-load role alike) at may (p ∷ b) e = absurd (passes t _ _ (open-pair i at live role p b e))
     step-of i (is-wait wait alike) at may [] e = rw (alike Tso Sc t y) (both-step i at e)
-    step-of i (is-wait wait alike) at may (p ∷ b) e = absurd (false≢true (rw (wait, e) at may))
+    step-of i (is-wait wait alike) at may (p ∷ b) e = absurd (no-is-not-yes (rw (wait, e) at may))
     step-of i (is-quiet q alike) at may [] e = rw (alike Tso Sc t y) (both-step i at e)
     step-of i (is-quiet q alike) at may (p ∷ b) e = rw (alike Tso Sc t y) (quiet-step i at q p b e)
 
@@ -179,6 +182,10 @@ flush-took : (v : ℕ) (b : List Pending) → is-oldest-to v b ≡ true → Took
 unfolding is-oldest-to oldest-to without-oldest-to
 flush-took v [] h = absurd (false≢true h)
 flush-took v (p ∷ b) h = record { oldest = p; rest = b; were = refl; to = eqb-true _ _ h; value = rw h; left = rw h }
+
+oldest-flushed : (v : ℕ) (b : List Pending) → may-flush Tso v b ≡ Yes → is-oldest-to v b ≡ true
+unfolding may-flush
+oldest-flushed v b h = needs-yes _ NotTheOldest (then-yes (needs (is-pending-to v b) NothingToFlush) (needs (is-oldest-to v b) NotTheOldest) h .1)
 
 -- A flush under TSO: SC runs the store, and then catches up.
 module _ (j : Job) (ok : JobIn j) (t : ℕ) (low : t < most-threads) (x y : State) (d : Delayed j x y)
@@ -217,13 +224,12 @@ module _ (j : Job) (ok : JobIn j) (t : ℕ) (low : t < most-threads) (x y : Stat
 
 module _ (j : Job) (ok : JobIn j) (passes : ChecksTo (j .threads) fenced) (c : ℕ) where
   follows-step : (s : ℕ) (x y y′ : State) → AllLive j x → Delayed j x y → next (under Tso c j) s y ≡ some y′ → Follows j x y′
-  unfolding may-flush
   follows-step s x y y′ live d e = which (next-either (under Tso c j) s y y′ e)
     where
       which : Ran (under Tso c j) s y y′ ⊎ ((t : ℕ) × (v : ℕ) × Flushed (under Tso c j) t v y y′) → Follows j x y′
       which (inl r) =
           subst (Follows j x) (r .is) (step-of j ok s (r .low) x y d passes live c (r .instr) (by-role (r .instr)) (r .stands) (r .may) (buffer s y) refl)
-      which (inr (t, v, f)) = subst (Follows j x) (f .is) (flush-step j ok t (f .low) x y d v (flush-took v (buffer t y) (f .may)))
+      which (inr (t, v, f)) = subst (Follows j x) (f .is) (flush-step j ok t (f .low) x y d v (flush-took v (buffer t y) (oldest-flushed v (buffer t y) (f .may))))
 
   -- the SC state keeps to live places, as every run does
   pub followed : (w : List ℕ) (x y z : State) → AllLive j x → Delayed j x y → run (machine (under Tso c j)) w y ≡ some z → Follows j x z

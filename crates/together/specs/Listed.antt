@@ -2,7 +2,7 @@
 -- says unknown or unreachable, or makes up counts, breaks its promise at P1; a check that always says OPEN at P9, one that always says
 -- FENCED at P1; a replay that always says "reaches" at P10; a search that writes nothing at P1's slots and links.
 use mathlib.Core.Path.{_≡_, refl, sym, _∙_, ap, subst}
-use mathlib.Core.List.{List, _++_}
+use mathlib.Core.List.{List, [], _∷_, _++_}
 use Prim.Native.Nat.{ℕ, zero, suc, _*_, _≤_}
 use native.Mathlib.Omega.{arith}
 use lib.ListN.{length, drop}
@@ -10,6 +10,9 @@ use Rattle.reach.specs.Lists.{All}
 use Rattle.reach.specs.ListLaws.{all-imp}
 use Rattle.reach.specs.Meaning.{Answer, reachable, unreachable, unknown, Outcome, LeastGoal, NoGoal, Reached, AtMost, Counts, GoalSchedule, MeansAt, Brings, slots-bytes}
 use Rattle.reach.specs.Words.{refusal-words, answer-words}
+use Rattle.reach.specs.Explained.{withheld}
+use Rattle.reach.specs.Replay.{Replayed, stuck, ReplaysTo}
+use Rattle.reach.specs.ReplayLaws.{withheld-stuck}
 use Rattle.reach.specs.Order.{First}
 use Rattle.reach.specs.Promise.{unknown-exactly}
 use Rattle.reach.specs.System.{System}
@@ -18,11 +21,13 @@ use Rattle.rules.specs.Job.{Job}
 use Rattle.rules.specs.File.{Decoded, accepted, refused, decode, job-of}
 use Rattle.rules.specs.Limits.{slot-size}
 use Rattle.rules.specs.Slot.{slot-bytes}
-use Rattle.rules.specs.Machine.{machine}
+use Rattle.rules.specs.Machine.{explained, machine}
+use Rattle.rules.specs.Step.{step}
+use Rattle.rules.specs.declared.Reason.{Reason}
 use Rattle.rules.specs.Same.{searchable}
 use Rattle.rules.specs.State.{State}
 use Rattle.rules.specs.Accepted.{job-of-accepted}
-use Rattle.rules.specs.Claims.{Claim, search-reaches, search-never, search-unknown, slots-follow, links-are, fences-say, replay-says, slot-after, enabled-after, refuses, Case, CaseHolds, Meant, InTurn}
+use Rattle.rules.specs.Claims.{Claim, search-reaches, search-never, search-unknown, slots-follow, links-are, fences-say, replay-says, slot-after, enabled-after, withheld-after, refuses, Case, CaseHolds, Meant, InTurn}
 use Rattle.rules.specs.Pins.{pins}
 use Rattle.rules.specs.Worked.{table, worked, pinned}
 use Rattle.fences.specs.Meaning as fences
@@ -97,6 +102,9 @@ module _ (bytes : List ℕ) (N : ℕ) where
   Fixes (links-are l) = Searched (λ m ws m′. m′ .links ≡ l ++ drop (length l) (m .links))
   Fixes (fences-say a) = (ws : List ℕ) → fences.FencePromise bytes ws → ws ≡ fences.checked-words a
   Fixes (replay-says w a) = (ws : List ℕ) → replay.ReplayPromise bytes w ws → ws ≡ replay.replayed-words a
+  -- a replay that comes to such a step is stuck there, for this reason
+  Fixes (withheld-after w steps why) =
+      All (λ s. (ws : List ℕ) → replay.ReplayPromise bytes (w ++ (s ∷ [])) ws → ws ≡ replay.replayed-words (stuck (length w) why)) steps
   -- of these no public promise speaks
   Fixes (slot-after w b) = Unit {0}
   Fixes (enabled-after w mask) = Unit {0}
@@ -104,6 +112,12 @@ module _ (bytes : List ℕ) (N : ℕ) where
       ((ws : List ℕ) → fences.FencePromise bytes ws → ws ≡ refusal-words number offset)
       × ((w ws : List ℕ) → replay.ReplayPromise bytes w ws → ws ≡ refusal-words number offset)
       × ((m m′ : Lent) (ws : List ℕ) → SearchPromise bytes m ws m′ → IsRefused number offset m ws m′)
+
+  replay-fixed : (j : Job) → decode bytes ≡ accepted j → (w : List ℕ) (a : Replayed Reason) → ReplaysTo (explained j) w a →
+      (ws : List ℕ) → replay.ReplayPromise bytes w ws → ws ≡ replay.replayed-words a
+  replay-fixed j is w a h ws k =
+      replay.replay-once bytes w ws (replay.replayed-words a) k
+      (subst (λ d. replay.ReplayOf d w (replay.replayed-words a)) (sym is) (record { replayed = a; means = h; answer = refl }))
 
   fixed-accepted : 1 ≤ N → (j : Job) → decode bytes ≡ accepted j → (c : Claim) → Meant N c (accepted j) → Fixes c
   fixed-accepted some-slot j is (search-reaches n w) h =
@@ -150,10 +164,10 @@ module _ (bytes : List ℕ) (N : ℕ) where
       λ ws k.
       fences.fences-once bytes ws (fences.checked-words a) k
       (fences.fences-accepted bytes (fences.checked-words a) j is (record { checked = a; means = h; answer = refl }))
-  fixed-accepted some-slot j is (replay-says w a) h =
-      λ ws k.
-      replay.replay-once bytes w ws (replay.replayed-words a) k
-      (subst (λ d. replay.ReplayOf d w (replay.replayed-words a)) (sym is) (record { replayed = a; means = h; answer = refl }))
+  fixed-accepted some-slot j is (replay-says w a) h = replay-fixed j is w a h
+  fixed-accepted some-slot j is (withheld-after w steps why) h =
+      all-imp (λ s. step j s (h .state) ≡ withheld why) _
+      (λ s e. replay-fixed j is (w ++ (s ∷ [])) (stuck (length w) why) (withheld-stuck (explained j) w (h .state) s why (h .leads) e)) steps (h .holds)
   fixed-accepted some-slot j is (slot-after w b) h = tt
   fixed-accepted some-slot j is (enabled-after w mask) h = tt
   fixed-accepted some-slot j is (refuses number offset) h = absurd h

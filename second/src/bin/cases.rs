@@ -6,7 +6,7 @@ use std::path::Path;
 use std::process::ExitCode;
 use std::{env, fs, io};
 
-const USAGE: &str = "use one of (each writes DIR/stdin and DIR/stdout, and prints how many cases have long threads, fences also how many have dead code):
+const USAGE: &str = "use one of (each writes DIR/stdin and DIR/stdout, and prints how many cases have long threads, replay also how many are stuck by which reason, fences how many have dead code):
   cases job DIR
   cases search DIR
   cases replay DIR
@@ -39,7 +39,7 @@ struct Kind {
     cases: Vec<u8>,
     /// What the program under test has to print.
     lines: String,
-    /// How many of the cases have long threads, and for the fence check dead code.
+    /// How many of the cases have long threads, for replay are stuck by which reason, and for the fence check have dead code.
     counts: String,
 }
 
@@ -74,10 +74,16 @@ fn of_search() -> Kind {
 fn of_replay() -> Kind {
     let cases = replay_cases::all();
     let lines = cases.iter().map(|case| replay_cases::line(case) + "\n");
+    let long_threads = replay_cases::counts_of_long_threads();
+    let reasons = replay_cases::counts_of_reasons();
     Kind {
         cases: cases.iter().flat_map(scheduled).collect(),
         lines: lines.collect(),
-        counts: counts_line("replay_cases", &replay_cases::counts_of_long_threads()),
+        counts: [
+            counts_line("replay_cases", &long_threads),
+            counts_line("replay_cases, reasons", &reasons),
+        ]
+        .join("\n"),
     }
 }
 

@@ -2,18 +2,18 @@
 use mathlib.Core.Path.{sym, _∙_}
 use Prim.Native.Nat.{_-_}
 use native.Mathlib.Omega.{arith}
+use borrow.Author.Needs.{needs}
 use lib.ListN.{length}
-use borrow.Author.Tests.{not-true, not-false}
 use Rattle.rules.specs.File.{job-of}
 use Rattle.replay.specs.Steps.{Stepping, stepping-start, stepping-stuck, stepping-on, stepping-reaches, stepping-short, at-step}
 use Rattle.replay.proofs.replay_accepted.Statement.{statement}
 use Rattle.replay.proofs.replay_accepted.Tie as tie
 
 abbrev Inv-loop : tie.InvT-loop
-Inv-loop job schedule l s₀ i₀ s i = Stepping (job-of job) schedule s i
+Inv-loop job schedule l x₀ i₀ x i = Stepping (job-of job) schedule x i
 
 abbrev μ-loop : tie.MeasureT-loop
-μ-loop job schedule l s₀ i₀ s i = length schedule - i
+μ-loop job schedule l x₀ i₀ x i = length schedule - i
 
 start-requires : tie.Need-start-requires Inv-loop μ-loop
 start-requires c κs = c .before .before .pre
@@ -27,15 +27,22 @@ shared-slice-read-s c = omega arith
 may-requires : tie.Need-may-requires Inv-loop μ-loop
 may-requires c κs = at-step (c .before .before .before .before .before .before .pre) (c .before .before .loop .inv)
 
-returns : tie.Need-returns Inv-loop μ-loop
-returns c =
-    let below = c .before .before .before .loop-test .taken in
-    stepping-stuck _ _ (c .before .before .before .before .loop .inv) below (sym (c .before .may .ensures) ∙ not-true _ (c .if1 .taken))
+enum-told : tie.Need-enum-told Inv-loop μ-loop
+enum-told c = search needs
 
 take-requires : tie.Need-take-requires Inv-loop μ-loop
 take-requires c κs =
-    let start = c .before .before .before .before .before .before .before .before in
-    (at-step (start .pre) (c .before .before .before .before .loop .inv), sym (c .before .may .ensures) ∙ not-false _ (c .if1 .left))
+    let start = c .before .before .before .before .before .before .before .before .before in
+    (at-step (start .pre) (c .before .before .before .before .before .loop .inv), sym (c .before .before .may .ensures) ∙ c .enum-told .given .1)
+
+enum-known-why : tie.Need-enum-known-why Inv-loop μ-loop
+enum-known-why c = search needs
+
+returns : tie.Need-returns Inv-loop μ-loop
+returns c =
+    let below = c .before .before .before .before .before .loop-test .taken in
+    let why = sym (c .before .before .before .may .ensures) ∙ c .before .why .given .1 in
+    stepping-stuck _ _ (c .before .before .before .before .before .before .loop .inv) below why
 
 add-i : tie.Need-add-i Inv-loop μ-loop
 add-i c = omega arith
@@ -45,18 +52,18 @@ loop-less c = omega arith
 
 loop-again : tie.Need-loop-again Inv-loop μ-loop
 loop-again c =
-    let below = c .before .before .before .before .loop-test .taken in
-    let may = sym (c .before .before .may .ensures) ∙ not-false _ (c .before .if1 .left) in
-    stepping-on _ _ (c .before .before .before .before .before .loop .inv) below may (c .take .ensures)
+    let below = c .before .before .before .before .before .loop-test .taken in
+    let may = sym (c .before .before .before .may .ensures) ∙ c .before .enum-told .given .1 in
+    stepping-on _ _ (c .before .before .before .before .before .before .loop .inv) below may (c .take .ensures)
 
 goal-requires : tie.Need-goal-requires Inv-loop μ-loop
 goal-requires c κs = at-step (c .before .before .before .before .before .pre) (c .before .loop .inv)
 
 returns-2 : tie.Need-returns-2 Inv-loop μ-loop
-returns-2 c = stepping-reaches _ _ (c .before .before .before .loop .inv) (c .before .before .loop-test .left) (c .before .goal .ensures) (c .if2 .taken)
+returns-2 c = stepping-reaches _ _ (c .before .before .before .loop .inv) (c .before .before .loop-test .left) (c .before .goal .ensures) (c .if1 .taken)
 
 returns-3 : tie.Need-returns-3 Inv-loop μ-loop
-returns-3 c = stepping-short _ _ (c .before .before .before .loop .inv) (c .before .before .loop-test .left) (c .before .goal .ensures) (c .if2 .left)
+returns-3 c = stepping-short _ _ (c .before .before .before .loop .inv) (c .before .before .loop-test .left) (c .before .goal .ensures) (c .if1 .left)
 
 pub replay-accepted-spec : {M : Type 1} → statement M
 replay-accepted-spec =
@@ -68,8 +75,10 @@ replay-accepted-spec =
     loop-holds
     shared-slice-read-s
     may-requires
-    returns
+    enum-told
     take-requires
+    enum-known-why
+    returns
     add-i
     loop-less
     loop-again

@@ -10,8 +10,8 @@ enum-told c = search needs
 enum-told-2 : tie.Need-enum-told-2
 enum-told-2 c = search needs
 
-is-oldest-to-requires : tie.Need-is-oldest-to-requires
-is-oldest-to-requires c κs = search needs
+may-flush-oldest-requires : tie.Need-may-flush-oldest-requires
+may-flush-oldest-requires c κs = search needs
 
 enum-told-3 : tie.Need-enum-told-3
 enum-told-3 c = search needs
@@ -19,17 +19,19 @@ enum-told-3 c = search needs
 is-pending-to-requires : tie.Need-is-pending-to-requires
 is-pending-to-requires c κs = search needs
 
+needs-requires : tie.Need-needs-requires
+needs-requires c κs = search needs
+
 returns : tie.Need-returns
 unfolding may-flush
 returns c = rw (c .enum-told .given .1)
 
 returns-2 : tie.Need-returns-2
-unfolding may-flush
-returns-2 c = rw (c .before .enum-told2 .given .1) (c .is-oldest-to .ensures)
+returns-2 c = rw (c .before .enum-told2 .given .1) (c .may-flush-oldest .ensures)
 
 returns-3 : tie.Need-returns-3
 unfolding may-flush
-returns-3 c = rw (c .before .enum-told3 .given .1) (c .is-pending-to .ensures)
+returns-3 c = rw (c .before .before .enum-told3 .given .1, ← c .before .is-pending-to .ensures) (c .needs .ensures)
 
 pub may-flush-spec : {M : Type 1} → statement M
 may-flush-spec =
@@ -37,9 +39,10 @@ may-flush-spec =
     (tie.spec
     enum-told
     enum-told-2
-    is-oldest-to-requires
+    may-flush-oldest-requires
     enum-told-3
     is-pending-to-requires
+    needs-requires
     returns
     returns-2
     returns-3)

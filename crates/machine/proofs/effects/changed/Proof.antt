@@ -2,6 +2,8 @@
 use mathlib.Core.Path.{refl}
 use borrow.Author.Needs.{needs}
 use Rattle.rules.specs.Step.{free, changed}
+use Rattle.rules.specs.MayLaws.{needs-yes}
+use Rattle.rules.specs.declared.Reason.the-variants.{BufferFull}
 use Rattle.rules.specs.Kinds.{wait-of}
 use Rattle.machine.proofs.OperandLaws.{fits-as, in-state}
 use Rattle.machine.proofs.effects.changed.Statement.{statement}
@@ -44,7 +46,7 @@ unfolding free wait-of
 stored-requires c κs =
     let start = c .before .before .before .before in
     let i = c .before .before .i4 .given .1 in
-    (start .pre .0, (in-state (start .pre .1 .0) (fits-as (start .pre .1 .0) i) .1, rw i at (start .pre .1 .1)))
+    (start .pre .0, (in-state (start .pre .1 .0) (fits-as (start .pre .1 .0) i) .1, needs-yes _ BufferFull (rw i at (start .pre .1 .1))))
 
 enum-told : tie.Need-enum-told
 enum-told c = search needs
