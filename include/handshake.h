@@ -10,9 +10,9 @@
  * all four. A refusal is 0, number, offset, 0, and then no other buffer was written.
  * The numbers, with the offset in the job, counted from 0 (docs/JOBS.md has the fields):
  *   1  fewer than 3 bytes, more than 1,109, or length wrong: 0
- *   2  version not 1: 2
+ *   2  version neither 1 nor 2: 2
  *   3  model, C, T or V out of range: that byte
- *   4  n above 64: that n; an instruction with a bad operation, operand or zero byte: its first byte
+ *   4  n above 64: that n; an instruction with a bad operation (10 and 11 are of version 2 only), operand or zero byte: its first byte
  *   5  flag not 0 or 1, or K, the number of clauses, not 1 to 16: that byte; a bad clause: its first byte
  *   6  a field, instruction or clause isn't wholly there: where it begins; bytes left over: the first of them
  *   7  search only, no slot (N is 0): 0
@@ -28,6 +28,9 @@ extern "C" {
 #endif
 
 /* Searches the job with N slots: the smallest of table_length / 96, links_length, schedule_length and 65536.
+ * A slot has 96 bytes: 4 places, 16 registers thread by thread, 8 variables, then for each thread a count and eight pairs (variable, value),
+ * unused ones 0. Under PSO a WFENCE parts a thread's stores into groups: the variable byte has 16 times the group's number added (the oldest
+ * group there is 0), and the count has 128 added while a WFENCE stands after the newest store.
  * answer: 0, number, offset, 0: refused
  *         1, d, states, 0:      reachable in d steps, which are the schedule's first d bytes
  *         2, states, 0, 0:      unreachable
@@ -44,17 +47,18 @@ void handshake_search(const uint8_t *job, size_t job_length, uint8_t *table, siz
  *   1  no such step: the number is above 35, or its thread is not below T, or its variable not below V. Correct the
  *      number, or the job's T or V.
  *   2  thread ended: an execute step of a thread that is at its end. Leave it out; what is still pending can be flushed.
- *   3  buffer full: a store, while C stores of its thread are pending (TSO, PSO). Flush one of them first, under TSO the oldest.
- *   4  buffer not empty: FENCE or XCHG, while a store of its thread is pending (TSO, PSO). Flush all of them first,
- *      under TSO oldest first.
+ *   3  buffer full: a store, while C stores of its thread are pending (TSO, PSO). Flush one of them first, under TSO the oldest,
+ *      under PSO one of the oldest group.
+ *   4  buffer not empty: FENCE, XCHG or CMPX, while a store of its thread is pending (TSO, PSO). Flush all of them first,
+ *      under TSO oldest first, under PSO oldest group first.
  *   5  nothing to flush: no store of that thread to that variable is pending; under SC there never is. Either it was not
  *      executed yet, and then execute it first, or it was flushed already, and then leave the flush out.
- *   6  not the oldest: there is such a store, but the oldest of the thread is to another variable (TSO). Flush the
- *      older ones first, oldest first. */
+ *   6  not the oldest: there is such a store, but the oldest of the thread is to another variable (TSO), or there is one only in
+ *      a later group, behind a WFENCE (PSO). Flush the older ones first, under TSO oldest first, under PSO oldest group first. */
 void handshake_replay(const uint8_t *job, size_t job_length, const uint8_t *schedule, size_t schedule_length, uint64_t answer[4]);
 
-/* Looks in each thread for a store and a later load with no FENCE or XCHG between. A store counts only if it stands at place 0 of its
- * thread or moves lead to it from there.
+/* Looks in each thread for a store and a later load with no FENCE, XCHG or CMPX between; WFENCE is no fence here. A store counts only if it
+ * stands at place 0 of its thread or moves lead to it from there.
  * answer: 0, number, offset, 0:   refused
  *         1, 0, 0, 0:             FENCED
  *         2, thread, store, load: OPEN, the least such places */

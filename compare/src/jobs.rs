@@ -3,13 +3,16 @@
 use crate::walk::walk;
 use second::job::MOST_INSTRUCTIONS;
 use second::listed::{
-    at_the_limit, bench_list, file, settled, with_byte, Memory, Program, AT_THE_START,
+    at_the_limit, bench_list, file, in_version, settled, with_byte, Memory, Program, AT_THE_START,
     FURTHEST_PLACE, P1, PSO, SC, TSO,
 };
 use second::long_threads::MOST_BEFORE;
 use second::machine::State;
-use second::random::{damaged_job, random_bytes, sound_job, Random};
+use second::random::{damaged_job, random_bytes, some_version, sound_job, sound_job_of, Random};
+use second::version_two::instructions_at;
+use second::version_two_jobs::{at_the_limit_of_two, classics_of_two, compare_exchange, WFENCE};
 use second::{decode, Job};
+use std::ops::Range;
 
 /// The job of a run that has more states than a search ever counts.
 pub const COUNTER: u64 = 0;
@@ -21,7 +24,8 @@ pub fn job(random: &mut Random, number: u64) -> Vec<u8> {
         return listed.swap_remove(number as usize);
     }
     match random.below(100) {
-        0..=7 => random_bytes(random),
+        0..=5 => random_bytes(random),
+        6..=7 => with_misused_operation(random),
         8..=23 => damaged_job(random),
         24..=27 => {
             let job = sound_of_any_shape(random, listed);
@@ -49,10 +53,11 @@ pub fn job(random: &mut Random, number: u64) -> Vec<u8> {
             with_far_goal(random, job, FAR)
         }
         73..=84 => handshake(random),
-        85..=97 => {
+        85..=95 => {
             let job = handshake(random);
             with_far_goal(random, job, FAR)
         }
+        96..=97 => message(random),
         _ => full_size(random),
     }
 }
@@ -70,14 +75,29 @@ fn sound_of_any_shape(random: &mut Random, mut listed: Vec<Vec<u8>>) -> Vec<u8> 
     }
 }
 
-/// The counter, the bench list and its refused inputs, and a job at every limit.
+/// The counter, the bench list and its refused inputs, and a job at every limit; then those that version 2 has more.
 fn listed() -> Vec<Vec<u8>> {
     let mut jobs = vec![counter()];
     jobs.extend(bench_list());
     let longest = at_the_limit();
     let too_long = settled([&longest[..], &[0]].concat());
-    jobs.extend([vec![], vec![0, 1, 2], vec![0, 1, 1], with_byte(&P1, 10, 10)]);
+    jobs.extend([vec![], vec![0, 1, 0], vec![0, 1, 1], with_byte(&P1, 10, 10)]);
     jobs.extend([longest, too_long]);
+    jobs.extend(listed_of_two());
+    jobs
+}
+
+/// What version 2 takes or refuses otherwise than version 1, P1, jobs that hang on CMPX and WFENCE, and one at every limit.
+fn listed_of_two() -> Vec<Vec<u8>> {
+    let p1 = in_version(&P1, 2);
+    let mut jobs = vec![
+        vec![0, 1, 2],
+        with_byte(&p1, 10, 10),
+        with_byte(&p1, 10, 11),
+    ];
+    jobs.push(p1);
+    jobs.extend(classics_of_two([PSO, 3]));
+    jobs.push(at_the_limit_of_two());
     jobs
 }
 
@@ -100,14 +120,15 @@ const END: u8 = 255;
 
 /// A few threads that wait for each other in loops, with a goal that a walk has been near.
 pub fn handshake(random: &mut Random) -> Vec<u8> {
+    let version = some_version(random);
     let variables = random.between(1, 4);
     let threads = random.pick(&[1, 2, 2, 2, 3, 4]);
     let longest = random.pick(&[4, 6, 8]);
     let programs: Vec<Program> = (0..threads)
-        .map(|_| handshake_program(random, variables, longest))
+        .map(|_| handshake_program(random, version, variables, longest))
         .collect();
     let initial: Vec<u8> = (0..variables).map(|_| random.below(2) as u8).collect();
-    let job = with_any_goal(some_memory(random), &initial, &programs);
+    let job = with_any_goal(version, some_memory(random), &initial, &programs);
     with_near_goal(random, job)
 }
 
@@ -118,12 +139,17 @@ fn some_memory(random: &mut Random) -> Memory {
     }
 }
 
-fn handshake_program(random: &mut Random, variables: usize, longest: usize) -> Program {
+fn handshake_program(
+    random: &mut Random,
+    version: u8,
+    variables: usize,
+    longest: usize,
+) -> Program {
     let mut program = Program::new();
     // A thread without instructions has ended at once.
     while program.len() < longest && random.percent(85) {
         let at = program.len() as u8;
-        program.extend(phrase(random, at, variables));
+        program.extend(phrase(random, version, at, variables));
     }
     program.truncate(longest);
     if program.len() < longest && random.percent(40) {
@@ -144,17 +170,21 @@ fn with_ends(mut program: Program) -> Program {
     program
 }
 
+const FENCE: [u8; 4] = [6, 0, 0, 0];
+
 /// Instructions that belong together; `at` is the place of the first of them.
-fn phrase(random: &mut Random, at: u8, variables: usize) -> Program {
+fn phrase(random: &mut Random, version: u8, at: u8, variables: usize) -> Program {
     let register = random.below(4) as u8;
     let variable = random.below(variables) as u8;
     let other = random.below(variables) as u8;
     let value = random.below(3) as u8;
     let announce = [5, 0, variable, value];
     let look = [3, register, other, 0];
-    match random.below(10) {
+    // Those from 10 on have operations of version 2.
+    let phrases = if version == 1 { 10 } else { 15 };
+    match random.below(phrases) {
         0 => vec![announce, look],
-        1 => vec![announce, [6, 0, 0, 0], look],
+        1 => vec![announce, FENCE, look],
         // Waits in a loop while the variable has this value.
         2 | 3 => vec![look, [8, register, at, value]],
         // Takes a lock by an exchange, again and again.
@@ -173,7 +203,38 @@ fn phrase(random: &mut Random, at: u8, variables: usize) -> Program {
         6 => vec![[8, register, at, value]],
         7 => vec![random.pick(&[[9, 0, at, 0], [9, 0, END, 0], [8, register, END, value]])],
         8 => vec![[2, register, 0, 1], [4, register, variable, 0]],
-        _ => vec![[4, register, variable, 0], [5, 0, other, 0]],
+        9 => vec![[4, register, variable, 0], [5, 0, other, 0]],
+        // Takes a lock only if it is free, again and again.
+        10 => vec![
+            [1, register, 0, 0],
+            compare_exchange(register, variable, 1),
+            [8, register, at, 1],
+        ],
+        // Takes or does not, by what the register happens to hold.
+        11 => vec![compare_exchange(register, variable, value)],
+        // Says one thing before the other, whatever the model.
+        12 => vec![announce, WFENCE, [4, register, other, 0]],
+        13 => vec![announce, WFENCE, look],
+        _ => vec![WFENCE],
+    }
+}
+
+/// What no load comes past: FENCE, XCHG and, in version 2, CMPX.
+fn barrier(random: &mut Random, version: u8, variable: u8) -> [u8; 4] {
+    let of_both = [FENCE, [7, 1, variable, 0]];
+    match version {
+        1 => random.pick(&of_both),
+        _ if random.percent(50) => random.pick(&of_both),
+        _ => compare_exchange(1, variable, 1),
+    }
+}
+
+/// What a load comes past: a quiet step or, in version 2, a WFENCE.
+fn no_barrier(random: &mut Random, version: u8) -> [u8; 4] {
+    match version {
+        1 => quiet_step(random),
+        _ if random.percent(30) => quiet_step(random),
+        _ => WFENCE,
     }
 }
 
@@ -181,18 +242,19 @@ fn phrase(random: &mut Random, at: u8, variables: usize) -> Program {
 
 /// A long thread that steps through quiet work before it handshakes, alone or beside a short one.
 fn sequencer(random: &mut Random) -> Vec<u8> {
+    let version = some_version(random);
     let variables = random.between(1, 4);
-    let mut programs = vec![sequencer_program(random, variables)];
+    let mut programs = vec![sequencer_program(random, version, variables)];
     if random.percent(70) {
-        let short = handshake_program(random, variables, 4);
+        let short = handshake_program(random, version, variables, 4);
         programs.insert(random.below(2), short);
     }
     let initial: Vec<u8> = (0..variables).map(|_| random.below(2) as u8).collect();
-    let job = with_any_goal(some_memory(random), &initial, &programs);
+    let job = with_any_goal(version, some_memory(random), &initial, &programs);
     with_far_goal(random, job, 2 * MOST_INSTRUCTIONS)
 }
 
-fn sequencer_program(random: &mut Random, variables: usize) -> Program {
+fn sequencer_program(random: &mut Random, version: u8, variables: usize) -> Program {
     let count = match random.below(8) {
         0 => MOST_BEFORE + 1,
         1..=3 => MOST_INSTRUCTIONS,
@@ -200,7 +262,7 @@ fn sequencer_program(random: &mut Random, variables: usize) -> Program {
     };
     let front = random.between(count / 2, count - LEAST_LATE_PART);
     let mut program: Program = (0..front).map(|_| quiet_step(random)).collect();
-    let late = late_part(random, front, count, variables);
+    let late = late_part(random, version, front..count, variables);
     program.extend(late);
     if random.percent(50) {
         // Short walks and small rooms get to the late part, too.
@@ -211,20 +273,24 @@ fn sequencer_program(random: &mut Random, variables: usize) -> Program {
 
 const LEAST_LATE_PART: usize = 5;
 
-/// The instructions from `front` on; of one kind, because among all kinds hardly any pair stays closed.
-fn late_part(random: &mut Random, front: usize, count: usize, variables: usize) -> Program {
+/// The instructions at these places; of one kind, because among all kinds hardly any pair stays closed.
+fn late_part(random: &mut Random, version: u8, places: Range<usize>, variables: usize) -> Program {
+    let Range {
+        start: front,
+        end: count,
+    } = places;
     let announce = [5, 0, random.below(variables) as u8, 1];
     let look = [3, 0, random.below(variables) as u8, 0];
-    let exchange = [7, 1, random.below(variables) as u8, 0];
-    let barrier = random.pick(&[[6, 0, 0, 0], exchange]);
+    let exchanged = random.below(variables) as u8;
+    let barrier = barrier(random, version, exchanged);
     let mut late = Program::new();
     match random.below(6) {
         0 | 1 => late = [announce, barrier, look].repeat(count),
-        2 => late = [announce, quiet_step(random), look].repeat(count),
+        2 => late = [announce, no_barrier(random, version), look].repeat(count),
         3 => {
             while late.len() < count - front {
                 let at = (front + late.len()) as u8;
-                late.extend(phrase(random, at, variables));
+                late.extend(phrase(random, version, at, variables));
             }
         }
         4 => {
@@ -267,28 +333,29 @@ fn quiet_step(random: &mut Random) -> [u8; 4] {
 
 /// Threads that are fenced where they are live, mostly, so that what is dead would decide.
 fn parked(random: &mut Random) -> Vec<u8> {
+    let version = some_version(random);
     let variables = random.between(1, 4);
     let threads = random.pick(&[1, 1, 2, 2, 3, 4]);
     let longest = random.pick(&[6, 10, 16, MOST_INSTRUCTIONS]);
     let programs: Vec<Program> = (0..threads)
-        .map(|_| parked_program(random, variables, longest))
+        .map(|_| parked_program(random, version, variables, longest))
         .collect();
     let initial: Vec<u8> = (0..variables).map(|_| random.below(2) as u8).collect();
-    let job = with_any_goal(some_memory(random), &initial, &programs);
+    let job = with_any_goal(version, some_memory(random), &initial, &programs);
     with_far_goal(random, job, FAR)
 }
 
-fn parked_program(random: &mut Random, variables: usize, longest: usize) -> Program {
+fn parked_program(random: &mut Random, version: u8, variables: usize, longest: usize) -> Program {
     let mut program = Program::new();
     let mut routines = vec![0];
     while program.len() < longest && random.percent(95) {
         let at = program.len() as u8;
         let [variable, other] = [(); 2].map(|()| random.below(variables) as u8);
         let [announce, look] = [[5, 0, variable, 1], [3, 0, other, 0]];
-        let barrier = random.pick(&[[6, 0, 0, 0], [7, 1, variable, 0]]);
+        let barrier = barrier(random, version, variable);
         match random.below(8) {
             0..=2 => {
-                let routine = routine(random, at + 1, announce, look);
+                let routine = routine(random, version, at + 1, [announce, look]);
                 routines.push(at + 1);
                 let past = at + 1 + routine.len() as u8;
                 program.push([9, 0, past, 0]);
@@ -309,7 +376,7 @@ fn parked_program(random: &mut Random, variables: usize, longest: usize) -> Prog
         program.push([9, 0, random.pick(&routines), 0]);
         program.extend([[5, 0, 0, 1], [3, 0, 0, 0]]);
     } else if random.percent(50) {
-        program.push([6, 0, 0, 0]);
+        program.push(FENCE);
         program.push(jump_to(random, &routines));
     }
     program.truncate(longest);
@@ -317,10 +384,10 @@ fn parked_program(random: &mut Random, variables: usize, longest: usize) -> Prog
 }
 
 /// A store and a load that nothing stands between, or a fence; it ends, goes on or goes round.
-fn routine(random: &mut Random, at: u8, announce: [u8; 4], look: [u8; 4]) -> Program {
+fn routine(random: &mut Random, version: u8, at: u8, [announce, look]: [[u8; 4]; 2]) -> Program {
     let mut routine = match random.below(4) {
-        0 => vec![announce, [6, 0, 0, 0], look],
-        1 => vec![announce, quiet_step(random), look],
+        0 => vec![announce, FENCE, look],
+        1 => vec![announce, no_barrier(random, version), look],
         2 => vec![quiet_step(random), announce, look],
         _ => vec![announce, look],
     };
@@ -343,70 +410,99 @@ fn within_its_end(mut program: Program) -> Program {
     program
 }
 
-// ---- deep buffers: a pending store among others is all that two states differ in ----
+// ---- deep buffers: a pending store among others, or a WFENCE, is all that two states differ in ----
 
-/// A thread that makes some stores, one of which hangs on whether another thread has raised a flag by then; both forget it.
+/// A thread that makes some stores, one of which, or a WFENCE, hangs on whether another thread has raised a flag by then; both forget it.
 fn deep_buffer(random: &mut Random) -> Vec<u8> {
     const FLAG: u8 = 0;
+    let version = some_version(random);
     let variables = random.between(2, 8);
     let before = random.below(8);
     let behind = random.below(8 - before);
     let capacity = random.between(before + 1 + behind, 8) as u8;
-    let mut storing = plain_stores(random, before, variables);
+    let mut storing = plain_stores(random, version, before, variables);
     let at = storing.len() as u8;
     storing.push([3, 0, FLAG, 0]);
     let [variable, other] = [(); 2].map(|()| random.between(1, variables - 1) as u8);
-    if random.percent(50) {
+    let wfence_hangs = version > 1 && random.percent(60);
+    if wfence_hangs {
+        storing.extend([[8, 0, at + 3, 1], WFENCE]);
+    } else if random.percent(50) {
         storing.push([4, 0, variable, 0]);
     } else {
         storing.extend([[8, 0, at + 4, 1], [5, 0, variable, 0], [9, 0, at + 5, 0]]);
         storing.push([5, 0, other, 0]);
     }
     storing.push([1, 0, 0, 0]);
-    storing.extend(plain_stores(random, behind, variables));
+    storing.extend(plain_stores(random, version, behind, variables));
     // The exchange gives the register its 0 back.
     let raising = vec![[1, 0, 0, 1], [7, 0, FLAG, 0]];
     let mut programs = vec![Program::new(); 4];
     let thread = random.below(4);
     programs[(thread + random.between(1, 3)) % 4] = raising;
     programs[thread] = storing;
-    let memory = [random.pick(&[TSO, PSO]), capacity];
-    let job = with_any_goal(memory, &vec![0; variables], &programs);
+    // Under TSO a WFENCE leaves nothing that two states could differ in.
+    let model = if wfence_hangs {
+        PSO
+    } else {
+        random.pick(&[TSO, PSO])
+    };
+    let memory = [model, capacity];
+    let job = with_any_goal(version, memory, &vec![0; variables], &programs);
     with_far_goal(random, job, FAR)
 }
 
-fn plain_stores(random: &mut Random, count: usize, variables: usize) -> Program {
+fn plain_stores(random: &mut Random, version: u8, count: usize, variables: usize) -> Program {
     let store = |random: &mut Random| {
         let variable = random.between(1, variables - 1) as u8;
         [5, 0, variable, random.below(2) as u8]
     };
-    (0..count).map(|_| store(random)).collect()
+    let stores: Program = (0..count).map(|_| store(random)).collect();
+    in_groups(random, version, stores)
+}
+
+/// Stores with a WFENCE now and then behind one, if the version has it.
+fn in_groups(random: &mut Random, version: u8, stores: Program) -> Program {
+    let mut program = Program::new();
+    for store in stores {
+        program.push(store);
+        if version > 1 && random.percent(35) {
+            program.push(WFENCE);
+        }
+    }
+    program
 }
 
 // ---- crowded buffers: a store, a fence or the end behind about as many stores as a buffer holds ----
 
 /// One thread or two that fill their buffers of any capacity, beside short ones.
 fn crowded(random: &mut Random) -> Vec<u8> {
+    let version = some_version(random);
     let variables = random.pick(&[1, 2, 3, 4, 5, 6, 7, 8, 8]);
     // Small buffers are soon full in other jobs, too.
     let capacity = random.pick(&[1, 2, 3, 4, 4, 5, 5, 6, 6, 7, 7, 8, 8]);
     let threads = random.between(1, 4);
     let mut programs: Vec<Program> = (0..threads)
-        .map(|_| handshake_program(random, variables, 3))
+        .map(|_| handshake_program(random, version, variables, 3))
         .collect();
     for _ in 0..random.between(1, 2) {
-        programs[random.below(threads)] = crowding_program(random, capacity, variables);
+        programs[random.below(threads)] = crowding_program(random, version, capacity, variables);
     }
     let memory = [random.pick(&[TSO, PSO]), capacity as u8];
-    let job = with_any_goal(memory, &vec![0; variables], &programs);
+    let job = with_any_goal(version, memory, &vec![0; variables], &programs);
     with_far_goal(random, job, FAR)
 }
 
 /// One store less than the buffer holds, just as many, or one more; behind them something that waits, or doesn't.
-fn crowding_program(random: &mut Random, capacity: usize, variables: usize) -> Program {
+fn crowding_program(
+    random: &mut Random,
+    version: u8,
+    capacity: usize,
+    variables: usize,
+) -> Program {
     let count = random.pick(&[capacity - 1, capacity, capacity + 1, capacity + 1]);
     let variable = |random: &mut Random| random.below(variables) as u8;
-    let mut program: Program = (0..count)
+    let stores: Program = (0..count)
         .map(|_| {
             let variable = variable(random);
             random.pick(&[
@@ -416,29 +512,73 @@ fn crowding_program(random: &mut Random, capacity: usize, variables: usize) -> P
             ])
         })
         .collect();
-    match random.below(6) {
-        0 => program.push([6, 0, 0, 0]),
-        1 => program.push([7, 0, variable(random), 0]),
-        2 => program.push([3, 0, variable(random), 0]),
-        3 | 4 => program.push([9, 0, 0, 0]),
-        _ => {}
-    }
+    let mut program = in_groups(random, version, stores);
+    let other = variable(random);
+    let ends: [&[[u8; 4]]; 9] = [
+        &[],
+        &[FENCE],
+        &[[7, 0, other, 0]],
+        &[[3, 0, other, 0]],
+        &[[9, 0, 0, 0]],
+        &[[9, 0, 0, 0]],
+        // From here on with operations of version 2.
+        &[compare_exchange(0, other, 1)],
+        &[WFENCE, [9, 0, 0, 0]],
+        &[WFENCE, WFENCE],
+    ];
+    let known = if version == 1 { 6 } else { ends.len() };
+    program.extend(ends[random.below(known)]);
     program
+}
+
+// ---- messages: stores that another thread may see in another order, unless something keeps them apart ----
+
+/// Thread 0 stores to some variables, thread 1 looks at a late one and then at an early one; the goal is that it sees the late one alone.
+fn message(random: &mut Random) -> Vec<u8> {
+    let version = some_version(random);
+    let count = random.between(2, 4);
+    let mut writer = Program::new();
+    for variable in 0..count {
+        writer.push([5, 0, variable as u8, 1]);
+        match random.below(10) {
+            0 => writer.push(FENCE),
+            1..=5 if version > 1 => writer.push(WFENCE),
+            _ => {}
+        }
+    }
+    let early = random.below(count - 1);
+    let late = random.between(early + 1, count - 1) as u8;
+    let looks = [3, 0, late, 0];
+    // A CMPX sees the late one as well, and takes only if it is not there yet.
+    let sees_late = match version {
+        1 => looks,
+        _ => random.pick(&[looks, compare_exchange(0, late, 2)]),
+    };
+    let reader = vec![sees_late, [3, 1, early as u8, 0]];
+    let memory = match random.below(8) {
+        0 => SC,
+        1 => [TSO, random.between(1, 8) as u8],
+        _ => [PSO, random.between(1, 8) as u8],
+    };
+    let goal = [[1, 1, 0, 2], [2, 1, 0, 1], [2, 1, 1, 0]];
+    let job = file(memory, &vec![0; count], &[writer, reader], 0, &goal);
+    in_version(&job, version)
 }
 
 /// Four threads of the most instructions, which is all that a file holds.
 fn full_size(random: &mut Random) -> Vec<u8> {
-    let programs: Vec<Program> = (0..4).map(|_| full_program(random)).collect();
+    let version = some_version(random);
+    let programs: Vec<Program> = (0..4).map(|_| full_program(random, version)).collect();
     let initial: Vec<u8> = (0..8).map(|_| random.byte()).collect();
-    let job = with_any_goal(some_memory(random), &initial, &programs);
+    let job = with_any_goal(version, some_memory(random), &initial, &programs);
     with_far_goal(random, job, FAR)
 }
 
-fn full_program(random: &mut Random) -> Program {
+fn full_program(random: &mut Random, version: u8) -> Program {
     let mut program = Program::new();
     while program.len() < MOST_INSTRUCTIONS {
         let at = program.len() as u8;
-        program.extend(phrase(random, at, 8));
+        program.extend(phrase(random, version, at, 8));
     }
     program.truncate(MOST_INSTRUCTIONS);
     with_ends(program)
@@ -447,8 +587,9 @@ fn full_program(random: &mut Random) -> Program {
 // ---- goals ----
 
 /// Without a goal a file is refused and can't be walked, so this one stands in until another takes its place.
-fn with_any_goal(memory: Memory, initial: &[u8], programs: &[Program]) -> Vec<u8> {
-    file(memory, initial, programs, 0, &[AT_THE_START])
+fn with_any_goal(version: u8, memory: Memory, initial: &[u8], programs: &[Program]) -> Vec<u8> {
+    let job = file(memory, initial, programs, 0, &[AT_THE_START]);
+    in_version(&job, version)
 }
 
 /// One or two facts about a state that a walk has been at.
@@ -544,6 +685,25 @@ fn with_blank_goal(random: &mut Random, mut job: Vec<u8>) -> Vec<u8> {
 }
 
 // ---- damage ----
+
+/// A job of version 2 that says another version, or has a CMPX or WFENCE with an operand about the edge of its range.
+fn with_misused_operation(random: &mut Random) -> Vec<u8> {
+    let mut job = sound_job_of(random, 2);
+    let variables = job[6];
+    // CMPX's register and variable, and any byte of WFENCE.
+    let (operation, operand, about_its_edge) = match random.below(6) {
+        0 | 1 => (10, 1, [3, 4, 4, 255]),
+        2 | 3 => (10, 2, [variables - 1, variables, variables, 255]),
+        _ => (11, random.between(1, 3), [1, 1, 128, 255]),
+    };
+    let mut places = instructions_at(&job);
+    places.retain(|&at| job[at] == operation);
+    if places.is_empty() || random.percent(30) {
+        return in_version(&job, random.pick(&[1, 1, 0, 4, 255]));
+    }
+    job[random.pick(&places) + operand] = random.pick(&about_its_edge);
+    job
+}
 
 /// The numbers at and beside the ends of every range of the file.
 fn edges() -> Vec<u8> {

@@ -81,21 +81,22 @@ impl<T: Cell> Lent<T> {
         self.cells[self.first..].as_mut_ptr()
     }
 
-    /// Where this memory, guards included, first differs from what is expected of it.
-    pub fn difference(&self, expected: &Lent<T>) -> Option<String> {
-        if self.cells == expected.cells {
+    /// Where this memory, guards included, first differs from the other; the names say whose each is.
+    pub fn difference(&self, other: &Lent<T>, names: [&str; 2]) -> Option<String> {
+        if self.cells == other.cells {
             return None;
         }
-        let pairs = self.cells.iter().zip(&expected.cells);
-        let (at, (found, wanted)) = pairs.enumerate().find(|(_, (a, b))| a != b)?;
+        let pairs = self.cells.iter().zip(&other.cells);
+        let (at, (here, there)) = pairs.enumerate().find(|(_, (a, b))| a != b)?;
         let index = at as i64 - self.first as i64;
         let guard = if (0..self.count as i64).contains(&index) {
             ""
         } else {
             " (outside of what was lent)"
         };
+        let [name, other_name] = names;
         Some(format!(
-            "first difference at {index}{guard}: library {found}, second checker {wanted}"
+            "first difference at {index}{guard}: {name} {here}, {other_name} {there}"
         ))
     }
 }

@@ -2,6 +2,7 @@
 
 pub mod blank;
 pub mod call;
+pub mod groups;
 pub mod hold;
 pub mod jobs;
 pub mod lent;
@@ -13,5 +14,6 @@ pub mod rooms;
 pub mod run;
 pub mod schedules;
 pub mod tally;
+pub mod versions;
 pub mod walk;
 pub mod work;

@@ -2,9 +2,10 @@
 
 use crate::blank::{self, Blank};
 use crate::call::{Call, Checker};
-use crate::hold::hold;
+use crate::hold::{hold, hold_versions};
 use crate::rooms::Room;
 use crate::tally::Tally;
+use crate::versions::other_version;
 use crate::{jobs, rooms, schedules};
 use second::machine::SLOT_BYTES;
 use second::random::Random;
@@ -28,8 +29,9 @@ pub fn compare_job(
         library,
         random: random_for(seed, number),
         number,
-        model: None,
+        accepted: None,
         blank: None,
+        other_version: None,
         tally,
         differences: Vec::new(),
     };
@@ -47,10 +49,12 @@ struct Comparison<'a> {
     library: &'a dyn Checker,
     random: Random,
     number: u64,
-    /// Of an accepted job.
-    model: Option<second::job::Model>,
+    /// The job, if it is accepted.
+    accepted: Option<Job>,
     /// Of a refused job.
     blank: Option<Blank>,
+    /// In which each call is made again, if it is to be.
+    other_version: Option<u8>,
     tally: &'a mut Tally,
     differences: Vec<Difference>,
 }
@@ -59,6 +63,10 @@ impl Comparison<'_> {
     fn run(&mut self) {
         let job = jobs::job(&mut self.random, self.number);
         self.tally.of_requests(&job);
+        // The job that is by far the slowest is searched in one version alone.
+        if self.number != jobs::COUNTER {
+            self.other_version = other_version(&job);
+        }
         match decode(&job) {
             Ok(decoded) => self.accepted(&job, &decoded),
             Err(refusal) => {
@@ -81,7 +89,7 @@ impl Comparison<'_> {
     }
 
     fn accepted(&mut self, job: &[u8], decoded: &Job) {
-        self.model = Some(decoded.model);
+        self.accepted = Some(decoded.clone());
         self.tally.accepted_job(decoded);
         let roomy = match self.number {
             jobs::COUNTER => rooms::over_most(),
@@ -100,9 +108,10 @@ impl Comparison<'_> {
                 panic!("the second checker's search of an accepted job answered {answer:?}")
             }
         };
-        self.tally
-            .pieces(&first.table.part()[..states * SLOT_BYTES]);
-        let ends = level_ends(&first.links.part()[..states]);
+        let slots = &first.table.part()[..states * SLOT_BYTES];
+        let links = &first.links.part()[..states];
+        self.tally.slots(&first, decoded, slots, links);
+        let ends = level_ends(links);
         let more_rooms = match first.words() {
             [3, ..] => rooms::within(&mut self.random, &ends),
             _ => rooms::about(&mut self.random, &ends),
@@ -128,17 +137,20 @@ impl Comparison<'_> {
 
     /// Gives the call as it should be left, so that one wrong answer doesn't lead to others.
     fn hold(&mut self, call: Call) -> Call {
+        let in_other_version = self.other_version.map(|version| (version, call.clone()));
         let held = hold(self.library, call);
-        self.tally.call(&held.expected, self.model);
+        self.tally.call(&held.expected, self.accepted.as_ref());
         if let Some(Blank::Goal { .. }) = self.blank {
             self.tally.call_with_blank_goal(&held.expected);
         }
-        if let Some(text) = held.difference {
-            self.differences.push(Difference {
-                job: self.number,
-                text,
-            });
-        }
+        let between_versions = in_other_version.and_then(|(version, call)| {
+            self.tally.call_in_both_versions(&held.expected);
+            hold_versions(self.library, call, version, &held.found)
+        });
+        let job = self.number;
+        let texts = held.difference.into_iter().chain(between_versions);
+        let differences = texts.map(|text| Difference { job, text });
+        self.differences.extend(differences);
         held.expected
     }
 }

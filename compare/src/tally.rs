@@ -2,13 +2,15 @@
 
 use crate::blank::Blank;
 use crate::call::{Call, Kind};
+use crate::groups;
 use crate::pieces::{decide_alone, PIECES};
 use crate::rooms::{self, Room};
 use crate::schedules::LONG;
-use second::job::{Instruction, Model};
+use second::job::Instruction;
 use second::long_threads::{ends_high, HIGH_END, HIGH_GOAL};
 use second::machine::{Reason, SLOT_BYTES};
-use second::{dead_code, decode, long_threads, reasons, Job};
+use second::version_two::{self, is_compare_exchange, is_wfence, Searched};
+use second::{dead_code, long_threads, reasons, Job};
 use std::collections::BTreeMap;
 
 type Class = (&'static str, &'static str);
@@ -41,11 +43,21 @@ const LONG_THREAD_CHECKS: &str = "long threads, checks";
 const LONG_THREAD_RUNS: &str = "long threads, runs";
 const DEAD_CODE: &str = "dead code";
 const DEAD_CODE_CHECKS: &str = "dead code, checks";
+const VERSIONS: &str = "versions";
+const VERSION_SEARCHES: [&str; 2] = ["searches, version 1", "searches, version 2"];
+const IN_BOTH_VERSIONS: &str = "in both versions";
+const VERSION_TWO: &str = "version 2";
+const VERSION_TWO_UNDER: &str = "version 2 under";
+const VERSION_TWO_SLOTS: &str = "version 2, slots";
+const VERSION_TWO_SEARCHES: &str = "version 2, searches";
+const VERSION_TWO_REPLAYS: &str = "version 2, replays";
+const VERSION_TWO_CHECKS: &str = "version 2, checks";
 const PIECE_ALONE: &str = "one piece apart";
 
 /// Every class that is named in the summary, in its order.
-const SECTIONS: [(&str, &[&str]); 31] = [
+const SECTIONS: [(&str, &[&str]); 41] = [
     (JOBS, &["accepted", "refused"]),
+    (VERSIONS, &["1", "2"]),
     (REFUSED, &["1", "2", "3", "4", "5", "6"]),
     (THREADS, &["1", "2", "3", "4"]),
     (VARIABLES, &["1", "2", "3", "4", "5", "6", "7", "8"]),
@@ -64,6 +76,40 @@ const SECTIONS: [(&str, &[&str]); 31] = [
     (LONG_THREAD_RUNS, &[HIGH_GOAL, HIGH_END]),
     (DEAD_CODE, &dead_code::OF_JOBS),
     (DEAD_CODE_CHECKS, &dead_code::OF_FENCE_CHECKS),
+    (VERSION_TWO_UNDER, &version_two::WITH_MEMORY),
+    (
+        VERSION_TWO,
+        &[
+            version_two::WITH_CMPX[0],
+            version_two::WITH_CMPX[1],
+            version_two::WITH_CMPX[2],
+            version_two::WITH_WFENCE[0],
+            version_two::WITH_WFENCE[1],
+            version_two::WITH_WFENCE[2],
+            version_two::NEITHER,
+            version_two::IN_VERSION_ONE,
+            version_two::BAD_OPERAND,
+            version_two::NO_VERSION,
+        ],
+    ),
+    (VERSION_TWO_SEARCHES, &version_two::OF_SEARCHES),
+    (VERSION_TWO_SLOTS, &groups::OF_SLOTS),
+    (VERSION_TWO_REPLAYS, &version_two::OF_REPLAYS),
+    (VERSION_TWO_CHECKS, &version_two::OF_FENCE_CHECKS),
+    (
+        IN_BOTH_VERSIONS,
+        &[
+            "refused",
+            "reachable",
+            "unreachable",
+            "unknown",
+            "reaches",
+            "falls short",
+            "stuck",
+            "FENCED",
+            "OPEN",
+        ],
+    ),
     (
         GOALS,
         &["any buffers", "empty buffers", "1 clause", "16 clauses"],
@@ -102,6 +148,14 @@ const SECTIONS: [(&str, &[&str]); 31] = [
     (MODELS[0], &["reachable", "unreachable", "unknown"]),
     (MODELS[1], &["reachable", "unreachable", "unknown"]),
     (MODELS[2], &["reachable", "unreachable", "unknown"]),
+    (
+        VERSION_SEARCHES[0],
+        &["reachable", "unreachable", "unknown"],
+    ),
+    (
+        VERSION_SEARCHES[1],
+        &["reachable", "unreachable", "unknown"],
+    ),
     (PIECE_ALONE, &NUMBERS),
     (
         DISTANCE,
@@ -118,10 +172,10 @@ const SECTIONS: [(&str, &[&str]); 31] = [
             "stuck behind 65,536",
         ],
     ),
-    // Without buffers no thread waits, and PSO has no store behind one to another variable.
+    // Without buffers no thread waits.
     (STUCK_BY[0], &["1", "2", "5"]),
     (STUCK_BY[1], &["1", "2", "3", "4", "5", "6"]),
-    (STUCK_BY[2], &["1", "2", "3", "4", "5"]),
+    (STUCK_BY[2], &["1", "2", "3", "4", "5", "6"]),
     (FULL_AT, &["1", "2", "3", "4", "5", "6", "7", "8"]),
     (
         STUCK[0],
@@ -135,27 +189,15 @@ const SECTIONS: [(&str, &[&str]); 31] = [
         ],
     ),
     (STUCK[1], &reasons::NEIGHBOURS),
-    (
-        STUCK[2],
-        &[
-            reasons::ABOVE_35,
-            reasons::ABSENT_THREAD,
-            reasons::ABSENT_THREAD_FLUSH,
-            reasons::ABSENT_VARIABLE,
-            reasons::BOTH_ABSENT,
-            reasons::ENDED_AT_FULL,
-            reasons::BARRIER_AT_FULL,
-            reasons::FLUSH_OF_ENDED,
-            reasons::FLUSH_OF_WAITING,
-            reasons::FLUSH_BESIDE,
-        ],
-    ),
+    (STUCK[2], &reasons::NEIGHBOURS),
     (FENCES, &["refused", "FENCED", "OPEN"]),
     ("calls", &["search", "replay", "fence check"]),
 ];
 
-/// Sections whose classes are numbers themselves.
-const NUMBERED: [&str; 11] = [
+/// Sections whose classes are numbers themselves, or end in one.
+const NUMBERED: [&str; 13] = [
+    VERSIONS,
+    VERSION_TWO_UNDER,
     REFUSED,
     REFUSED_SEARCHES,
     THREADS,
@@ -228,13 +270,19 @@ impl Tally {
         }
     }
 
-    /// What the requests have made new about a job, accepted or refused: long threads, and dead code.
+    /// What the requests have made new about a job, accepted or refused: long threads, dead code, and version 2.
     pub fn of_requests(&mut self, job: &[u8]) {
+        let (under, others) = version_two::of_job(job)
+            .into_iter()
+            .partition(|class| version_two::WITH_MEMORY.contains(class));
         let of_sections = [
             (LONG_THREADS, long_threads::of_job(job)),
             (LONG_THREAD_CHECKS, long_threads::of_fence_check(job)),
             (DEAD_CODE, dead_code::of_job(job)),
             (DEAD_CODE_CHECKS, dead_code::of_fence_check(job)),
+            (VERSION_TWO_UNDER, under),
+            (VERSION_TWO, others),
+            (VERSION_TWO_CHECKS, version_two::of_fence_check(job)),
         ];
         for (section, classes) in of_sections {
             for class in classes {
@@ -245,6 +293,7 @@ impl Tally {
 
     pub fn accepted_job(&mut self, job: &Job) {
         self.count(JOBS, "accepted");
+        self.count(VERSIONS, NUMBERS[usize::from(job.version)]);
         self.count(THREADS, NUMBERS[job.programs.len()]);
         self.count(VARIABLES, NUMBERS[job.initial.len()]);
         self.count(CAPACITY, NUMBERS[job.capacity]);
@@ -302,11 +351,24 @@ impl Tally {
         }
     }
 
-    /// The slots that a job's first search counted: which pieces alone tell two of their states apart.
-    pub fn pieces(&mut self, slots: &[u8]) {
+    /// The slots and links that a job's first search counted: which pieces alone tell two of the states apart, and what groups do.
+    pub fn slots(&mut self, search: &Call, job: &Job, slots: &[u8], links: &[u32]) {
         let decide = decide_alone(slots);
         for (class, _) in NUMBERS.iter().zip(decide).filter(|(_, alone)| *alone) {
             self.count(PIECE_ALONE, class);
+        }
+        if has_new_operations(job) {
+            let searched = Searched {
+                answer: search.words(),
+                table: slots,
+                schedule: search.schedule.part(),
+            };
+            for class in version_two::of_search(search.job.part(), searched) {
+                self.count(VERSION_TWO_SEARCHES, class);
+            }
+            for class in groups::of_slots(slots, links) {
+                self.count(VERSION_TWO_SLOTS, class);
+            }
         }
     }
 
@@ -323,14 +385,26 @@ impl Tally {
         self.count(DISTANCE, class);
     }
 
-    /// What was answered; the model is there when the job was accepted.
-    pub fn call(&mut self, call: &Call, model: Option<Model>) {
+    /// What was answered; the job is there when it was accepted.
+    pub fn call(&mut self, call: &Call, job: Option<&Job>) {
         match call.kind {
-            Kind::Search => self.search(call.words(), model),
-            Kind::Replay => self.replay(call),
+            Kind::Search => self.search(call.words(), job),
+            Kind::Replay => self.replay(call, job),
             Kind::Fences => self.fences(call.words()),
         }
         self.high_end(call);
+    }
+
+    /// What was answered to a call that the library was given in both versions.
+    pub fn call_in_both_versions(&mut self, call: &Call) {
+        let [kind, ..] = call.words();
+        let class = match (call.kind, kind) {
+            (_, 0) => "refused",
+            (Kind::Search, _) => search_class(kind),
+            (Kind::Replay, _) => replay_class(kind),
+            (Kind::Fences, _) => fences_class(kind),
+        };
+        self.count(IN_BOTH_VERSIONS, class);
     }
 
     /// A search that finds a way, or a replay, which ends above place 32.
@@ -359,32 +433,24 @@ impl Tally {
         }
     }
 
-    fn search(&mut self, [kind, first, second, _]: [u64; 4], model: Option<Model>) {
+    fn search(&mut self, [kind, first, second, _]: [u64; 4], job: Option<&Job>) {
         self.count("calls", "search");
-        let (class, states) = match kind {
-            0 => return self.count(REFUSED_SEARCHES, NUMBERS[first as usize]),
-            1 => ("reachable", second),
-            2 => ("unreachable", first),
-            3 => ("unknown", first),
-            4.. => panic!("{kind} is no kind of answer to a search"),
-        };
+        if kind == 0 {
+            return self.count(REFUSED_SEARCHES, NUMBERS[first as usize]);
+        }
+        let states = if kind == 1 { second } else { first };
         self.most_states = self.most_states.max(states);
-        if let Some(model) = model {
-            self.count(MODELS[model as usize], class);
+        if let Some(job) = job {
+            let class = search_class(kind);
+            self.count(MODELS[job.model as usize], class);
+            self.count(VERSION_SEARCHES[usize::from(job.version) - 1], class);
         }
     }
 
-    fn replay(&mut self, call: &Call) {
+    fn replay(&mut self, call: &Call, job: Option<&Job>) {
         let [kind, first, reason, _] = call.words();
         self.count("calls", "replay");
-        let class = match kind {
-            0 => "refused",
-            1 => "reaches",
-            2 => "falls short",
-            3 => "stuck",
-            4.. => panic!("{kind} is no kind of answer to a replay"),
-        };
-        self.count(REPLAYS, class);
+        self.count(REPLAYS, replay_class(kind));
         let steps = call.schedule.count() as u64;
         let taken = if kind == 3 { first } else { steps };
         if kind != 0 && taken > LONG as u64 {
@@ -393,8 +459,13 @@ impl Tally {
                 self.count(REPLAYS, "stuck behind 65,536");
             }
         }
-        if let (3, Ok(job)) = (kind, decode(call.job.part())) {
-            self.stuck(call, &job, reason);
+        if let (3, Some(job)) = (kind, job) {
+            self.stuck(call, job, reason);
+        }
+        if job.map_or(false, has_new_operations) {
+            for class in version_two::of_replay(call.job.part(), call.schedule.part()) {
+                self.count(VERSION_TWO_REPLAYS, class);
+            }
         }
     }
 
@@ -406,7 +477,9 @@ impl Tally {
             self.count(FULL_AT, NUMBERS[job.capacity]);
         }
         for class in reasons::of_replay(call.job.part(), call.schedule.part()) {
-            assert!(!reasons::NEVER.contains(&class), "{class} can't come up");
+            let too_new = job.version == 1 && class == reasons::ONLY_IN_VERSION_TWO;
+            let never = too_new || reasons::NEVER.contains(&class);
+            assert!(!never, "{class} can't come up in version {}", job.version);
             if reasons::NEIGHBOURS.contains(&class) {
                 self.count(STUCK[model], class);
             }
@@ -415,13 +488,7 @@ impl Tally {
 
     fn fences(&mut self, [kind, ..]: [u64; 4]) {
         self.count("calls", "fence check");
-        let class = match kind {
-            0 => "refused",
-            1 => "FENCED",
-            2 => "OPEN",
-            3.. => panic!("{kind} is no kind of answer to a fence check"),
-        };
-        self.count(FENCES, class);
+        self.count(FENCES, fences_class(kind));
     }
 
     /// One line a section, and the greatest numbers.
@@ -450,6 +517,40 @@ impl Tally {
             "", self.greatest_distance, self.most_states
         );
         text
+    }
+}
+
+/// Whether it has a CMPX or a WFENCE.
+fn has_new_operations(job: &Job) -> bool {
+    let mut instructions = job.programs.iter().flatten();
+    instructions.any(|&instruction| is_compare_exchange(instruction) || is_wfence(instruction))
+}
+
+fn search_class(kind: u64) -> &'static str {
+    match kind {
+        1 => "reachable",
+        2 => "unreachable",
+        3 => "unknown",
+        0 | 4.. => panic!("{kind} is no kind of answer to a search that is not refused"),
+    }
+}
+
+fn replay_class(kind: u64) -> &'static str {
+    match kind {
+        0 => "refused",
+        1 => "reaches",
+        2 => "falls short",
+        3 => "stuck",
+        4.. => panic!("{kind} is no kind of answer to a replay"),
+    }
+}
+
+fn fences_class(kind: u64) -> &'static str {
+    match kind {
+        0 => "refused",
+        1 => "FENCED",
+        2 => "OPEN",
+        3.. => panic!("{kind} is no kind of answer to a fence check"),
     }
 }
 

@@ -2,10 +2,12 @@
 
 use compare::library::{fences, replay, search};
 use second::listed::{
-    at_the_limit, bench_list, file, settled, too_long_threads, with_byte, Memory, Program,
-    AT_THE_START, P1, PSO, SC, TSO,
+    accepted_list, at_the_limit, bench_list, every_memory, file, in_version, settled,
+    too_long_threads, with_byte, Memory, Program, AT_THE_START, P1, PSO, SC, TSO,
 };
 use second::machine::SLOT_BYTES;
+use std::collections::BTreeSet;
+use std::slice;
 
 const NO_LINK: u32 = 4_294_967_295;
 const TABLE_MARK: u8 = 0xA5;
@@ -192,8 +194,11 @@ fn p1_is_open_and_p9_fenced() {
 fn refusals_are_alike_and_write_nothing() {
     let cases = [
         (vec![], 1, 0),
-        (vec![0, 1, 2], 2, 2),
+        (vec![0, 1, 0], 2, 2),
+        (vec![0, 1, 4], 2, 2),
+        (vec![0, 1, 255], 2, 2),
         (vec![0, 1, 1], 6, 3),
+        (vec![0, 1, 2], 6, 3),
         (with_byte(&P1, 1, 0x2A), 1, 0),
         (with_byte(&P1, 4, 9), 3, 4),
         (with_byte(&P1, 10, 0x0A), 4, 10),
@@ -735,4 +740,374 @@ fn the_reason_is_that_of_the_first_step_that_cannot_be_taken() {
     assert_eq!(replay(&tso, &[0, behind]), [3, 1, 5, 0]);
     assert_eq!(replay(&tso, &[0, 0, behind]), [3, 2, 6, 0]);
     assert_eq!(replay(&tso, &[0, 0, flush(0, 0), behind]), FALLS_SHORT);
+}
+
+// ---- version 2: CMPX and WFENCE ----
+
+const WFENCE: [u8; 4] = [11, 0, 0, 0];
+
+/// CMPX of register 0 with variable 0.
+const fn compare_exchange(value: u8) -> [u8; 4] {
+    [10, 0, 0, value]
+}
+
+const fn store_value(variable: u8, value: u8) -> [u8; 4] {
+    [5, 0, variable, value]
+}
+
+/// As `job`, in version 2.
+fn job_of_two(memory: Memory, variables: usize, programs: &[Program]) -> Vec<u8> {
+    in_version(&job(memory, variables, programs), 2)
+}
+
+#[test]
+fn operations_10_and_11_are_refused_in_version_1_and_run_in_version_2() {
+    for instruction in [compare_exchange(1), [10, 3, 1, 255], WFENCE] {
+        for memory in EACH_MODEL {
+            let job = job(memory, 2, &[vec![instruction]]);
+            // Head and values take 9 bytes, then comes n.
+            let refusal = [0, 4, 10, 0];
+            let run = run(&job, 9);
+            assert_eq!(run.answer, refusal);
+            assert!(run.wrote_no_more_than(0, 0));
+            assert_eq!(replay(&job, &[0]), refusal);
+            assert_eq!(fences(&job), refusal);
+            let job = in_version(&job, 2);
+            assert_eq!(replay(&job, &[0]), FALLS_SHORT);
+            assert_eq!(fences(&job), [1, 0, 0, 0]);
+        }
+    }
+}
+
+#[test]
+fn operands_of_cmpx_and_wfence_are_judged() {
+    let bad = [
+        [10, 4, 0, 0],
+        [10, 0, 2, 0],
+        [11, 1, 0, 0],
+        [11, 0, 1, 0],
+        [11, 0, 0, 1],
+        [12, 0, 0, 0],
+    ];
+    for instruction in bad {
+        let job = job_of_two([PSO, 1], 2, &[vec![instruction]]);
+        assert_eq!(replay(&job, &[]), [0, 4, 10, 0], "{instruction:?}");
+        assert_eq!(fences(&job), [0, 4, 10, 0], "{instruction:?}");
+    }
+}
+
+#[test]
+fn the_bench_list_has_the_same_answers_in_version_2() {
+    for (job, slots) in accepted_list()
+        .into_iter()
+        .flat_map(|job| [1, 5, 640].map(|slots| (job.clone(), slots)))
+    {
+        let of_two = in_version(&job, 2);
+        let [one, two] = [&job, &of_two].map(|job| run(job, slots));
+        assert_eq!(one.answer, two.answer);
+        assert_eq!(one.table, two.table);
+        assert_eq!(one.links, two.links);
+        assert_eq!(one.schedule, two.schedule);
+        for schedule in [&[0, 0, 1, 1][..], &[0, 0, 1, 1, 4, 13], &[0, 4], &[36], &[]] {
+            assert_eq!(replay(&job, schedule), replay(&of_two, schedule));
+        }
+        assert_eq!(fences(&job), fences(&of_two));
+    }
+}
+
+/// P6 to P8 with this between the stores of the writer.
+fn message_passing(memory: Memory, between: &[[u8; 4]]) -> Vec<u8> {
+    let writer = [&[store(0)], between, &[store(1)]].concat();
+    let reader = vec![[3, 0, 1, 0], [3, 1, 0, 0]];
+    let goal = [[1, 1, 0, 2], [2, 1, 0, 1], [2, 1, 1, 0]];
+    in_version(&file(memory, &[0, 0], &[writer, reader], 0, &goal), 2)
+}
+
+/// A state of message passing: places, registers 0 and 1 of the reader, x and y, the writer's buffer, link.
+type PassingRow = ([u8; 2], [u8; 2], [u8; 2], &'static [u8], u32);
+
+/// The writer's buffer: x alone, and with a WFENCE behind it; x and in the next group y; y, whose group is now the oldest.
+const X: &[u8] = &[1, 0, 1];
+const X_MARKED: &[u8] = &[129, 0, 1];
+const X_THEN_Y: &[u8] = &[2, 0, 1, 17, 1];
+const Y: &[u8] = &[1, 1, 1];
+
+/// All states of message passing with a WFENCE under PSO at C = 2, in order, worked out by hand.
+const PASSING_STATES: [PassingRow; 30] = [
+    ([0, 0], [0, 0], [0, 0], &[], NO_LINK),
+    ([1, 0], [0, 0], [0, 0], X, 0),
+    ([0, 1], [0, 0], [0, 0], &[], 1),
+    ([2, 0], [0, 0], [0, 0], X_MARKED, 64),
+    ([1, 1], [0, 0], [0, 0], X, 64 + 1),
+    ([1, 0], [0, 0], [1, 0], &[], 64 + 4),
+    ([0, 2], [0, 0], [0, 0], &[], 2 * 64 + 1),
+    ([3, 0], [0, 0], [0, 0], X_THEN_Y, 3 * 64),
+    ([2, 1], [0, 0], [0, 0], X_MARKED, 3 * 64 + 1),
+    // The flush of x has taken the WFENCE with it: the same as a WFENCE on the empty buffer of slot 5.
+    ([2, 0], [0, 0], [1, 0], &[], 3 * 64 + 4),
+    ([1, 2], [0, 0], [0, 0], X, 4 * 64 + 1),
+    ([1, 1], [0, 0], [1, 0], &[], 4 * 64 + 4),
+    ([3, 1], [0, 0], [0, 0], X_THEN_Y, 7 * 64 + 1),
+    // The group of y is renumbered: the same as a store to y into the empty buffer of slot 9.
+    ([3, 0], [0, 0], [1, 0], Y, 7 * 64 + 4),
+    ([2, 2], [0, 0], [0, 0], X_MARKED, 8 * 64 + 1),
+    ([2, 1], [0, 0], [1, 0], &[], 8 * 64 + 4),
+    ([1, 2], [0, 0], [1, 0], &[], 10 * 64 + 4),
+    ([1, 2], [0, 1], [1, 0], &[], 11 * 64 + 1),
+    ([3, 2], [0, 0], [0, 0], X_THEN_Y, 12 * 64 + 1),
+    ([3, 1], [0, 0], [1, 0], Y, 12 * 64 + 4),
+    ([3, 0], [0, 0], [1, 1], &[], 13 * 64 + 5),
+    ([2, 2], [0, 0], [1, 0], &[], 14 * 64 + 4),
+    ([2, 2], [0, 1], [1, 0], &[], 15 * 64 + 1),
+    ([3, 2], [0, 0], [1, 0], Y, 18 * 64 + 4),
+    ([3, 2], [0, 1], [1, 0], Y, 19 * 64 + 1),
+    ([3, 1], [0, 0], [1, 1], &[], 19 * 64 + 5),
+    ([3, 1], [1, 0], [1, 1], &[], 20 * 64 + 1),
+    ([3, 2], [0, 0], [1, 1], &[], 23 * 64 + 5),
+    ([3, 2], [0, 1], [1, 1], &[], 24 * 64 + 5),
+    ([3, 2], [1, 1], [1, 1], &[], 26 * 64 + 1),
+];
+
+#[test]
+fn message_passing_with_a_wfence_whole() {
+    let run = run(&message_passing([PSO, 2], &[WFENCE]), 640);
+    assert_eq!(run.answer, [2, 30, 0, 0]);
+    for (slot, row) in run.table.chunks_exact(SLOT_BYTES).zip(PASSING_STATES) {
+        let (places, registers, memory, buffer, _) = row;
+        let mut expected = vec![0; SLOT_BYTES];
+        expected[..2].copy_from_slice(&places);
+        expected[8..10].copy_from_slice(&registers);
+        expected[20..22].copy_from_slice(&memory);
+        expected[28..28 + buffer.len()].copy_from_slice(buffer);
+        assert_eq!(slot, expected, "{row:?}");
+    }
+    assert_eq!(run.links[..30], PASSING_STATES.map(|row| row.4));
+    assert!(run.wrote_no_more_than(30, 0));
+}
+
+#[test]
+fn a_wfence_keeps_the_message_in_order_under_pso() {
+    for memory in every_memory() {
+        let plain = run(&message_passing(memory, &[]), 640).answer[0];
+        // P7: with room for one store the first has landed before the second is issued.
+        let reachable = memory[0] == PSO && memory[1] > 1;
+        assert_eq!(plain, if reachable { 1 } else { 2 }, "{memory:?}");
+        let kept = run(&message_passing(memory, &[WFENCE]), 640).answer[0];
+        assert_eq!(kept, 2, "{memory:?}");
+    }
+}
+
+/// The count and the pairs of thread 0's buffer, in all states of a job of one thread in which it is at this place.
+fn buffers_at(job: &[u8], place: u8) -> BTreeSet<Vec<u8>> {
+    // The goal is never met, so that all states are counted.
+    let never = settled([&job[..job.len() - 5], &[2], &AT_THE_START, &[1, 0, 0, 1]].concat());
+    let run = run(&never, 640);
+    let counted = match run.answer {
+        [2, states, 0, 0] => states as usize,
+        answer => panic!("{answer:?}"),
+    };
+    let slots = run.table.chunks_exact(SLOT_BYTES).take(counted);
+    let here = slots.filter(|slot| slot[0] == place);
+    let buffers = here.map(|slot| {
+        let pairs = usize::from(slot[28] % 128);
+        let (buffer, unused) = slot[28..].split_at(1 + 2 * pairs);
+        assert!(unused.iter().all(|&byte| byte == 0));
+        buffer.to_vec()
+    });
+    buffers.collect()
+}
+
+fn set_of(buffers: &[&[u8]]) -> BTreeSet<Vec<u8>> {
+    buffers.iter().map(|buffer| buffer.to_vec()).collect()
+}
+
+#[test]
+fn three_groups_with_one_variable_in_two_of_them() {
+    let program = vec![
+        store_value(0, 1),
+        WFENCE,
+        store_value(1, 2),
+        WFENCE,
+        store_value(0, 3),
+    ];
+    let job = job_of_two([PSO, 3], 2, &[program]);
+    // All three, and then the groups that are left, counted from the oldest of these.
+    let left = set_of(&[
+        &[3, 0, 1, 17, 2, 32, 3],
+        &[2, 1, 2, 16, 3],
+        &[1, 0, 3],
+        &[0],
+    ]);
+    assert_eq!(buffers_at(&job, 5), left);
+    // x is pending in the oldest group and in the newest, y only behind x.
+    let stores = [0; 5];
+    let [x, y] = [flush(0, 0), flush(0, 1)];
+    let after = |flushes: &[u8]| replay(&job, &[&stores[..], flushes].concat());
+    assert_eq!(after(&[y]), [3, 5, 6, 0]);
+    assert_eq!(after(&[x, x]), [3, 6, 6, 0]);
+    assert_eq!(after(&[x, y, y]), [3, 7, 5, 0]);
+    assert_eq!(after(&[x, y, x]), FALLS_SHORT);
+    assert_eq!(after(&[x, y, x, x]), [3, 8, 5, 0]);
+}
+
+#[test]
+fn pairs_stand_by_group_and_then_by_variable() {
+    // 2, 1, 1 again, then 0 and 2.
+    let program = vec![
+        store_value(2, 1),
+        store_value(1, 2),
+        store_value(1, 3),
+        WFENCE,
+        store_value(2, 4),
+        store_value(0, 5),
+    ];
+    let job = job_of_two([PSO, 5], 3, &[program]);
+    let whole = vec![5, 1, 2, 1, 3, 2, 1, 16, 5, 18, 4];
+    assert!(buffers_at(&job, 6).contains(&whole));
+}
+
+#[test]
+fn what_a_wfence_leaves() {
+    let buffers = |program: &[[u8; 4]], place| {
+        let job = job_of_two([PSO, 2], 2, &[program.to_vec()]);
+        buffers_at(&job, place)
+    };
+    let empty: &[u8] = &[0];
+    // On an empty buffer nothing, once and twice, and the store behind it is in the oldest group.
+    assert_eq!(buffers(&[WFENCE, WFENCE, store(0)], 2), set_of(&[empty]));
+    assert_eq!(buffers(&[WFENCE, store(0)], 2), set_of(&[X, empty]));
+    // Behind a store a mark that the buffer loses when it empties; a second WFENCE changes nothing.
+    assert_eq!(buffers(&[store(0), WFENCE], 2), set_of(&[X_MARKED, empty]));
+    assert_eq!(
+        buffers(&[store(0), WFENCE, WFENCE], 3),
+        set_of(&[X_MARKED, empty])
+    );
+    // Of two stores one may go, and the mark stays.
+    assert_eq!(
+        buffers(&[store(0), store(1), WFENCE], 3),
+        set_of(&[&[130, 0, 1, 1, 1], X_MARKED, &[129, 1, 1], empty])
+    );
+    // A store that joins ends it, and begins the next group; two in a row are as one.
+    let then_y = set_of(&[X_THEN_Y, Y, empty]);
+    assert_eq!(buffers(&[store(0), WFENCE, store(1)], 3), then_y);
+    assert_eq!(buffers(&[store(0), WFENCE, WFENCE, store(1)], 4), then_y);
+    // Under TSO nothing at all.
+    let tso = job_of_two([TSO, 2], 2, &[vec![store(0), WFENCE, store(1)]]);
+    assert_eq!(buffers_at(&tso, 2), set_of(&[X, empty]));
+    let in_order: &[u8] = &[2, 0, 1, 1, 1];
+    assert_eq!(buffers_at(&tso, 3), set_of(&[in_order, Y, empty]));
+}
+
+#[test]
+fn a_wfence_is_enabled_at_a_full_buffer_and_takes_no_room() {
+    for memory in every_memory() {
+        let count = usize::from(memory[1]);
+        let program = [vec![store(0); count], vec![WFENCE, WFENCE, store(1)]].concat();
+        let job = job_of_two(memory, 2, &[program]);
+        let full = vec![0; count + 2];
+        assert_eq!(replay(&job, &full), FALLS_SHORT, "{memory:?}");
+        // The store behind it waits: those of all groups count.
+        let next = replay(&job, &[&full[..], &[0]].concat());
+        let waits = [3, count as u64 + 2, 3, 0];
+        assert_eq!(next, if memory == SC { FALLS_SHORT } else { waits });
+    }
+}
+
+#[test]
+fn a_load_takes_the_newest_own_store_across_groups() {
+    // x in the first and the third group, y in the second.
+    let program = vec![
+        store_value(0, 1),
+        WFENCE,
+        store_value(1, 2),
+        WFENCE,
+        store_value(0, 3),
+        [3, 0, 0, 0],
+        [3, 1, 1, 0],
+        [3, 2, 2, 0],
+    ];
+    let goal = [[2, 0, 0, 3], [2, 0, 1, 2], [2, 0, 2, 9], [1, 0, 0, 8]];
+    for memory in every_memory() {
+        let job = in_version(
+            &file(memory, &[0, 0, 9], slice::from_ref(&program), 0, &goal),
+            2,
+        );
+        assert_eq!(run(&job, 640).answer[0], 1, "{memory:?}");
+        // Whatever has landed by then, the first is not loaded: the value of the first clause is 1 now.
+        let older = with_byte(&job, job.len() - 13, 1);
+        assert_eq!(run(&older, 640).answer[0], 2, "{memory:?}");
+    }
+}
+
+#[test]
+fn a_cmpx_takes_or_does_not() {
+    // 0 is 0: x becomes 5. 0 is not 5: x stays, and the register is now 5. 5 is 5: x becomes 9.
+    let program = [5, 7, 9].map(compare_exchange).to_vec();
+    for memory in EACH_MODEL {
+        let job = in_version(
+            &file(memory, &[0], slice::from_ref(&program), 0, &[[3, 0, 0, 9]]),
+            2,
+        );
+        let run = run(&job, 9);
+        assert_eq!(run.answer, [1, 3, 4, 0]);
+        let states: Vec<[u8; 3]> = run.table[..4 * SLOT_BYTES]
+            .chunks_exact(SLOT_BYTES)
+            .map(|slot| [slot[0], slot[4], slot[20]])
+            .collect();
+        assert_eq!(states, [[0, 0, 0], [1, 0, 5], [2, 5, 5], [3, 5, 9]]);
+    }
+}
+
+#[test]
+fn a_cmpx_waits_for_an_empty_buffer_whether_it_takes_or_not() {
+    for first in [[1, 0, 0, 0], [1, 0, 0, 9]] {
+        let program = vec![first, store(1), compare_exchange(5)];
+        for capacity in [1, 2] {
+            for model in [TSO, PSO] {
+                let job = job_of_two([model, capacity], 2, slice::from_ref(&program));
+                assert_eq!(replay(&job, &[0, 0, 0]), [3, 2, 4, 0]);
+                assert_eq!(replay(&job, &[0, 0, flush(0, 1), 0]), FALLS_SHORT);
+            }
+        }
+        let sc = job_of_two(SC, 2, &[program]);
+        assert_eq!(replay(&sc, &[0, 0, 0]), FALLS_SHORT);
+    }
+}
+
+#[test]
+fn a_cmpx_gives_a_lock_to_one_alone() {
+    let thread = vec![
+        [1, 0, 0, 0],
+        compare_exchange(1),
+        [8, 0, 0, 1],
+        store_value(0, 0),
+    ];
+    let goal = [[1, 0, 0, 3], [1, 1, 0, 3]];
+    for memory in every_memory() {
+        let both = [thread.clone(), thread.clone()];
+        let job = in_version(&file(memory, &[0], &both, 0, &goal), 2);
+        assert_eq!(run(&job, 640).answer[0], 2, "{memory:?}");
+        let one = in_version(&file(memory, &[0], &both, 0, &goal[..1]), 2);
+        assert_eq!(run(&one, 640).answer[..2], [1, 3], "{memory:?}");
+    }
+}
+
+#[test]
+fn for_the_fence_check_cmpx_is_as_xchg_and_wfence_as_nothing() {
+    let check = |program: &[[u8; 4]]| fences(&in_version(&asking(program, 0), 2));
+    let [fenced, open] = [[1, 0, 0, 0], [2, 0, 0, 2]];
+    for (between, answer) in [
+        (compare_exchange(1), fenced),
+        (EXCHANGE, fenced),
+        (WFENCE, open),
+        ([2, 0, 0, 1], open),
+    ] {
+        assert_eq!(check(&[STORE, between, LOAD]), answer, "{between:?}");
+    }
+    // Neither is a store or a load.
+    for neither in [compare_exchange(1), WFENCE] {
+        assert_eq!(check(&[neither, LOAD]), fenced);
+        assert_eq!(check(&[STORE, neither]), fenced);
+    }
+    assert_eq!(check(&[STORE, WFENCE, compare_exchange(1), LOAD]), fenced);
 }

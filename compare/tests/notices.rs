@@ -2,19 +2,21 @@
 
 use compare::blank::{self, Blank};
 use compare::call::{Call, Checker, Kind, Second};
-use compare::hold::hold;
-use compare::jobs;
+use compare::hold::{hold, hold_versions};
 use compare::run::{run, Plan, Report};
+use compare::{groups, jobs};
 use second::dead_code::{fences_shut, jeq_always_jumps, jeq_never_jumps, live_if, never_back};
 use second::fences::{live_places, open_run_or_not, OpenPair};
 use second::job::{Instruction, Model};
-use second::listed::{with_byte, P1};
+use second::listed::{in_version, with_byte, P1};
 use second::long_threads::{
     ends_high, of_job, FULL_SIZE, HIGH_END, HIGH_GOAL, LONG_THREAD, ONE_TOO_MANY,
 };
 use second::machine::{reason, Reason, State, Step, REASONS, SLOT_BYTES};
 use second::random::{Random, Sizes};
 use second::replay::{follow, follow_until_stuck};
+use second::version_two::{self, is_compare_exchange, is_wfence};
+use second::version_two_jobs::WFENCE;
 use second::{dead_code, decode, long_threads, reasons, Job, Refusal};
 use std::collections::BTreeSet;
 use std::ops::Range;
@@ -694,8 +696,7 @@ const MODELS: [Model; 3] = [Model::Sc, Model::Tso, Model::Pso];
 fn reasons_under(model: Model) -> &'static [u64] {
     match model {
         Model::Sc => &[1, 2, 5],
-        Model::Tso => &[1, 2, 3, 4, 5, 6],
-        Model::Pso => &[1, 2, 3, 4, 5],
+        Model::Tso | Model::Pso => &[1, 2, 3, 4, 5, 6],
     }
 }
 
@@ -843,19 +844,15 @@ fn two_reasons_exchanged() {
 #[test]
 fn reasons_5_and_6_exchanged_where_stores_are_pending() {
     // Said to be behind another where it isn't pending, and the other way round.
-    for right in [5, 6] {
-        notices_reason(|stuck| {
-            let (thread, _) = stuck.flushes()?;
-            let beside = stuck.is_by(Model::Tso, right) && stuck.pending(thread) > 0;
-            beside.then_some(11 - right)
-        });
+    for model in [Model::Tso, Model::Pso] {
+        for right in [5, 6] {
+            notices_reason(|stuck| {
+                let (thread, _) = stuck.flushes()?;
+                let beside = stuck.is_by(model, right) && stuck.pending(thread) > 0;
+                beside.then_some(11 - right)
+            });
+        }
     }
-    // PSO has no store that is behind one to another variable.
-    notices_reason(|stuck| {
-        let (thread, _) = stuck.flushes()?;
-        let beside = stuck.is_by(Model::Pso, 5) && stuck.pending(thread) > 0;
-        beside.then_some(6)
-    });
 }
 
 #[test]
@@ -1035,6 +1032,397 @@ fn a_fence_check_that_always_says_the_same() {
     }
 }
 
+// ---- version 2 ----
+
+/// Jobs enough to meet what is rare even in version 2.
+const FOR_VERSION_TWO: u64 = 2000;
+
+/// The version that an accepted or refused file says.
+fn version(call: &Call) -> Option<u8> {
+    call.job.part().get(2).copied()
+}
+
+/// Reads another job than it is given in calls of one kind, and is right about that.
+struct Misreading<F> {
+    kind: Kind,
+    read: F,
+}
+
+impl<F: Fn(&[u8]) -> Vec<u8> + Sync> Checker for Misreading<F> {
+    fn run(&self, call: &mut Call) {
+        let job = call.job.part().to_vec();
+        if call.kind == self.kind {
+            call.job.part_mut().copy_from_slice(&(self.read)(&job));
+        }
+        Second.run(call);
+        call.job.part_mut().copy_from_slice(&job);
+    }
+}
+
+fn notices_misreading(kind: Kind, read: impl Fn(&[u8]) -> Vec<u8> + Sync) -> String {
+    let liar = Misreading { kind, read };
+    let mut parts = (0..FOR_VERSION_TWO).step_by(100);
+    let found = parts.find_map(|first| report_from(&liar, first, 100, 1).kept.into_iter().next());
+    found.expect("nothing was noticed").text
+}
+
+/// Accepted jobs of version 2 with another instruction in place of each of this operation.
+fn reading(operation: u8, other: impl Fn([u8; 4]) -> [u8; 4]) -> impl Fn(&[u8]) -> Vec<u8> {
+    move |job| match decode(job) {
+        Ok(accepted) if accepted.version == 2 => with_instructions(job, |_, quad| {
+            if quad[0] == operation {
+                other(quad)
+            } else {
+                quad
+            }
+        }),
+        _ => job.to_vec(),
+    }
+}
+
+const EACH_KIND: [Kind; 3] = [Kind::Search, Kind::Replay, Kind::Fences];
+
+#[test]
+fn a_stand_in_that_reads_what_is_there_has_no_difference() {
+    for kind in EACH_KIND {
+        let read = |job: &[u8]| job.to_vec();
+        let right = Misreading { kind, read };
+        assert_eq!(report(&right, 300, 1).differences, 0);
+    }
+}
+
+#[test]
+fn a_decoder_that_knows_one_version_only() {
+    for known in [1, 2] {
+        let refused = 3 - known;
+        let text = first_difference(refusing(2, move |job| (job[2] == refused).then_some(2)));
+        assert!(text.contains("answer: first difference at"), "{text}");
+    }
+}
+
+#[test]
+fn a_version_that_there_is_not_and_one_of_the_three_accepts() {
+    for kind in EACH_KIND {
+        // Taken for either version, as a decoder that does not look would.
+        for taken_for in [1, 2] {
+            notices_misreading(kind, |job| match decode(job) {
+                Err(Refusal { number: 2, .. }) => in_version(job, taken_for),
+                _ => job.to_vec(),
+            });
+        }
+    }
+}
+
+#[test]
+fn an_operation_of_version_2_that_version_1_accepts() {
+    for kind in EACH_KIND {
+        for operation in [10, 11] {
+            notices_misreading(kind, |job| match decode(job) {
+                Err(Refusal { number: 4, offset }) if job[2] == 1 && job[offset] == operation => {
+                    in_version(job, 2)
+                }
+                _ => job.to_vec(),
+            });
+        }
+    }
+}
+
+#[test]
+fn an_operation_of_version_2_that_is_refused_there() {
+    for operation in [10, 11] {
+        first_difference_of(
+            FOR_VERSION_TWO,
+            refusing(4, move |job| {
+                let mut instructions = threads(job)
+                    .into_iter()
+                    .flat_map(|(_, bytes)| bytes.step_by(4));
+                instructions.find(|&at| job[at] == operation)
+            }),
+        );
+    }
+}
+
+#[test]
+fn a_bad_operand_of_cmpx_or_wfence_that_is_accepted() {
+    // Register and variable of CMPX, and each byte of WFENCE, taken for 0.
+    for (operation, part) in [(10, 1), (10, 2), (11, 1), (11, 2), (11, 3)] {
+        notices_misreading(EACH_KIND[part - 1], |job| match decode(job) {
+            Err(Refusal { number: 4, offset }) if job[2] == 2 && job[offset] == operation => {
+                with_byte(job, offset + part, 0)
+            }
+            _ => job.to_vec(),
+        });
+    }
+}
+
+#[test]
+fn a_wfence_that_does_nothing_or_waits() {
+    for kind in [Kind::Search, Kind::Replay] {
+        for other in [ADD, [6, 0, 0, 0]] {
+            notices_misreading(kind, reading(11, move |_| other));
+        }
+    }
+}
+
+#[test]
+fn a_cmpx_taken_for_something_else() {
+    for kind in [Kind::Search, Kind::Replay] {
+        // It always writes, and what the register held; never; the register stays; it only waits.
+        let others: [fn([u8; 4]) -> [u8; 4]; 4] = [
+            |[_, register, variable, _]| [7, register, variable, 0],
+            |[_, register, variable, _]| [3, register, variable, 0],
+            |[_, _, variable, value]| [5, 0, variable, value],
+            |_| [6, 0, 0, 0],
+        ];
+        for other in others {
+            notices_misreading(kind, reading(10, other));
+        }
+    }
+}
+
+#[test]
+fn a_fence_check_that_takes_wfence_or_cmpx_for_something_else() {
+    let kind = Kind::Fences;
+    // WFENCE for a fence, for a store and for a load.
+    for other in [[6, 0, 0, 0], [5, 0, 0, 1], [3, 0, 0, 0]] {
+        let text = notices_misreading(kind, reading(11, move |_| other));
+        assert!(text.contains("fence check"), "{text}");
+    }
+    // CMPX for no fence, for a store and for a load.
+    for other in [ADD, WFENCE, [5, 0, 0, 1], [3, 0, 0, 0]] {
+        notices_misreading(kind, reading(10, move |_| other));
+    }
+}
+
+/// The buffers of all counted slots of a search, under PSO and in version 2, are changed so.
+fn notices_buffers(change: impl Fn(&mut [u8]) + Sync) {
+    let text = first_difference_of(FOR_VERSION_TWO, |call| {
+        if let (Kind::Search, Ok(job)) = (call.kind, decode(call.job.part())) {
+            if job.version == 2 && job.model == Model::Pso {
+                let counted = slots(call) * SLOT_BYTES;
+                let table = call.table.part_mut()[..counted].chunks_exact_mut(SLOT_BYTES);
+                let buffers = table.flat_map(|slot| slot[28..].chunks_exact_mut(17));
+                buffers.for_each(&change);
+            }
+        }
+    });
+    assert!(text.contains("table: first difference at"), "{text}");
+}
+
+/// Variable and value of each pending store, as they stand in a buffer.
+fn pairs(buffer: &mut [u8]) -> Vec<[u8; 2]> {
+    let count = usize::from(buffer[0] % 128);
+    let pairs = buffer[1..].chunks_exact(2).take(count);
+    pairs.map(|pair| [pair[0], pair[1]]).collect()
+}
+
+fn put_pairs(buffer: &mut [u8], pairs: &[[u8; 2]]) {
+    buffer[1..1 + 2 * pairs.len()].copy_from_slice(&pairs.concat());
+}
+
+#[test]
+fn a_slot_with_wrong_groups() {
+    let newest = |pairs: &[[u8; 2]]| pairs.last().map_or(0, |pair| pair[0] / 16);
+    // None; numbers that count the WFENCEs before; from the newest; from 1, as if they had not been renumbered.
+    let numbered: [fn(u8, u8) -> u8; 4] = [
+        |_, _| 0,
+        |group, _| 2 * group,
+        |group, newest| newest - group,
+        |group, _| group + 1,
+    ];
+    for number in numbered {
+        notices_buffers(|buffer| {
+            let mut pairs = pairs(buffer);
+            let newest = newest(&pairs);
+            for pair in &mut pairs {
+                pair[0] = pair[0] % 16 + 16 * number(pair[0] / 16, newest);
+            }
+            put_pairs(buffer, &pairs);
+        });
+    }
+    // By variable and then by group.
+    notices_buffers(|buffer| {
+        let mut pairs = pairs(buffer);
+        pairs.sort_by_key(|pair| (pair[0] % 16, pair[0] / 16));
+        put_pairs(buffer, &pairs);
+    });
+}
+
+#[test]
+fn a_slot_with_a_wrong_wfence() {
+    // Not told; told of another number; told of an empty buffer; still told when a store has joined.
+    notices_buffers(|buffer| buffer[0] %= 128);
+    notices_buffers(|buffer| buffer[0] = buffer[0] % 128 + 64 * (buffer[0] / 128));
+    notices_buffers(|buffer| {
+        if buffer[0] == 0 {
+            buffer[0] = 128;
+        }
+    });
+    notices_buffers(|buffer| {
+        let in_groups = pairs(buffer).iter().any(|pair| pair[0] >= 16);
+        if in_groups && buffer[0] < 128 {
+            buffer[0] += 128;
+        }
+    });
+}
+
+/// The instruction that a thread is stuck at.
+fn next<'a>(stuck: &'a Stuck) -> Option<&'a Instruction> {
+    let thread = stuck.executes()?;
+    let place = stuck.state.threads.get(thread)?.place;
+    stuck.job.programs.get(thread)?.get(place)
+}
+
+/// Whether a thread is stuck at a CMPX, and whether that would take.
+fn waiting_cmpx(stuck: &Stuck) -> Option<bool> {
+    match (*next(stuck)?, stuck.executes()?) {
+        (
+            Instruction::CompareExchange {
+                register, variable, ..
+            },
+            thread,
+        ) => {
+            let wanted = stuck.state.threads[thread].registers[register];
+            Some(stuck.state.memory[variable] == wanted)
+        }
+        _ => None,
+    }
+}
+
+#[test]
+fn a_cmpx_that_does_not_wait() {
+    // Whatever it would do, and only if it would not take.
+    let waits: [fn(bool) -> bool; 2] = [|_| true, |takes| !takes];
+    for does_not_wait in waits {
+        first_difference_of(
+            FOR_VERSION_TWO,
+            where_stuck(move |stuck| {
+                let takes = waiting_cmpx(stuck)?;
+                does_not_wait(takes).then_some([2, 0, 0, 0])
+            }),
+        );
+    }
+    // It waits for room, not for an empty buffer.
+    let text = first_difference_of(
+        FOR_VERSION_TWO,
+        saying(|stuck| waiting_cmpx(stuck).map(|_| 3)),
+    );
+    assert!(text.contains("library 3, second checker 4"), "{text}");
+}
+
+#[test]
+fn a_replay_that_is_stuck_where_a_wfence_runs() {
+    for class in [
+        version_two::ON_EMPTY,
+        version_two::ON_FULL,
+        version_two::IN_A_ROW,
+        version_two::DOES_NOTHING,
+    ] {
+        first_difference_of(FOR_VERSION_TWO, |call| {
+            if call.kind == Kind::Replay && call.words()[0] != 0 {
+                let met = version_two::of_replay(call.job.part(), call.schedule.part());
+                if met.contains(&class) {
+                    set_answer(call, [3, 0, 3, 0]);
+                }
+            }
+        });
+    }
+}
+
+#[test]
+fn a_flush_of_a_later_group_that_is_taken() {
+    first_difference_of(
+        FOR_VERSION_TWO,
+        where_stuck(|stuck| stuck.is_by(Model::Pso, 6).then_some([2, 0, 0, 0])),
+    );
+}
+
+/// A search of P1 in this version, in room enough.
+fn search_of_p1(version: u8) -> Call {
+    let sizes = Sizes {
+        table: 2200,
+        links: 25,
+        schedule: 23,
+    };
+    Call::search(&mut Random::new(1), &in_version(&P1, version), sizes)
+}
+
+/// What is said about the same call in the other version, if anything.
+fn between_versions(library: &dyn Checker, call: Call) -> Option<String> {
+    let other = 3 - version(&call).expect("the file says its version");
+    let found = hold(library, call.clone()).found;
+    hold_versions(library, call, other, &found)
+}
+
+#[test]
+fn a_file_that_both_versions_can_say_answers_alike() {
+    for version in [1, 2] {
+        assert_eq!(between_versions(&Second, search_of_p1(version)), None);
+    }
+}
+
+type Spoil = fn(&mut Call);
+
+#[test]
+fn a_file_that_answers_otherwise_in_its_other_version() {
+    let spoils: [(Spoil, &str); 5] = [
+        (
+            |call| call.answer.part_mut()[1] += 1,
+            "answer: first difference at 1: version 1 has 4, version 2 has 5",
+        ),
+        (
+            |call| call.table.part_mut()[97] = 9,
+            "table: first difference at 97: version 1 has 0, version 2 has 9",
+        ),
+        (
+            |call| call.links.part_mut()[1] = 9,
+            "links: first difference at 1: version 1 has 0, version 2 has 9",
+        ),
+        (
+            |call| call.schedule.part_mut()[3] = 9,
+            "schedule: first difference at 3: version 1 has 1, version 2 has 9",
+        ),
+        (
+            |call| call.job.part_mut()[2] = 9,
+            "job: first difference at 2: version 1 has",
+        ),
+    ];
+    for (spoil, said) in spoils {
+        let liar = Spoiling(move |call: &mut Call| {
+            if version(call) == Some(2) {
+                spoil(call);
+            }
+        });
+        for version in [1, 2] {
+            let text = between_versions(&liar, search_of_p1(version)).expect("the spoil shows");
+            assert!(text.contains(said), "'{said}' is not in\n{text}");
+        }
+    }
+}
+
+#[test]
+fn a_run_holds_files_to_themselves_in_the_other_version() {
+    for kind in EACH_KIND {
+        // Version 2 is right about CMPX and WFENCE, and about nothing else.
+        let liar = Spoiling(move |call: &mut Call| {
+            let accepted = decode(call.job.part()).ok();
+            let plain = accepted.filter(|job| {
+                let mut instructions = job.programs.iter().flatten();
+                let is_new = |&one: &Instruction| is_compare_exchange(one) || is_wfence(one);
+                job.version == 2 && !instructions.any(is_new)
+            });
+            if call.kind == kind && plain.is_some() {
+                call.answer.part_mut()[3] += 1;
+            }
+        });
+        let kept = report(&liar, 300, 1).kept;
+        let between = kept
+            .iter()
+            .filter(|kept| kept.text.contains("version 1 has"));
+        assert!(between.count() > 0, "{kept:?}");
+    }
+}
+
 #[test]
 fn a_difference_is_told_in_full() {
     let sizes = Sizes {
@@ -1190,10 +1578,9 @@ fn neighbours_under(model: Model) -> Vec<&'static str> {
     ];
     let all = reasons::NEIGHBOURS.into_iter();
     all.filter(|class| match model {
-        Model::Sc => !of_buffers.contains(class) && *class != reasons::OTHER_STATE_BEFORE,
-        Model::Tso => true,
         // One step turns a reason into another only where a store comes to stand behind one to another variable.
-        Model::Pso => *class != reasons::OTHER_STATE_BEFORE,
+        Model::Sc => !of_buffers.contains(class) && *class != reasons::OTHER_STATE_BEFORE,
+        Model::Tso | Model::Pso => true,
     })
     .collect()
 }
@@ -1257,6 +1644,56 @@ fn every_call_of_a_blank_goal_is_counted_once() {
     assert_eq!(counted("bytes behind"), 0);
     assert!(counted("searches") >= 2);
     assert_eq!((counted("replays"), counted("fence checks")), (2, 2));
+}
+
+#[test]
+fn a_run_without_version_2_is_said_to_lack_it() {
+    // The first eleven are P1 to P11.
+    let lacking = report(&Second, 11, 1).tally.empty_classes();
+    let classes = |section: &str, classes: &[&str]| -> Vec<String> {
+        let named = classes.iter().map(|class| format!("{section}: {class}"));
+        named.collect()
+    };
+    let (under, others): (Vec<&str>, Vec<&str>) = version_two::of_jobs()
+        .into_iter()
+        .partition(|class| version_two::WITH_MEMORY.contains(class));
+    for class in [
+        classes("versions", &["2"]),
+        classes("version 2 under", &under),
+        classes("version 2", &others),
+        classes("version 2, searches", &version_two::OF_SEARCHES),
+        classes("version 2, slots", &groups::OF_SLOTS),
+        classes("version 2, replays", &version_two::OF_REPLAYS),
+        classes("version 2, checks", &version_two::OF_FENCE_CHECKS),
+        classes(
+            "searches, version 2",
+            &["reachable", "unreachable", "unknown"],
+        ),
+    ]
+    .concat()
+    {
+        assert!(lacking.contains(&class), "{class} not in {lacking:?}");
+    }
+}
+
+#[test]
+fn half_of_the_jobs_are_of_version_2() {
+    let tally = report(&Second, 2000, 2).tally;
+    let [one, two] = ["1", "2"].map(|version| tally.counted("versions", version));
+    assert!(one > 500 && two > 500, "{one} and {two}");
+    for class in version_two::WITH_MEMORY {
+        let count = tally.counted("version 2 under", class);
+        assert!(count > 10, "only {count} under {class}");
+    }
+    for class in version_two::OF_REPLAYS {
+        let count = tally.counted("version 2, replays", class);
+        assert!(count > 2, "only {count} of {class}");
+    }
+    let alike: u64 = ["refused", "reachable", "reaches", "stuck", "FENCED", "OPEN"]
+        .iter()
+        .map(|class| tally.counted("in both versions", class))
+        .sum();
+    assert!(alike > 1000, "only {alike} calls in both versions");
 }
 
 #[test]

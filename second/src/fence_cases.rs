@@ -5,12 +5,13 @@ use crate::fences::fences;
 use crate::job::MOST_INSTRUCTIONS;
 use crate::listed::{
     accepted_list, at_the_limit, blank_goals, fewest_and_most_clauses, file, p12, refused_jobs,
-    too_long_threads, Memory, Program, AT_THE_START, FURTHEST_PLACE, MEMORIES, P12_REFUSAL, PSO,
-    ROOM_FOR_JOB, SC, TSO,
+    too_long_threads, Memory, Program, Refused, AT_THE_START, FURTHEST_PLACE, MEMORIES,
+    P12_REFUSAL, PSO, ROOM_FOR_JOB, SC, TSO,
 };
 use crate::long_threads::MOST_BEFORE;
-use crate::random::{damaged_job, random_bytes, sound_job, Random};
-use crate::{dead_code, dead_code_cases, long_threads};
+use crate::random::{damaged_job_of, random_bytes_of, sound_job_of, Random};
+use crate::version_two_jobs::{refused_about_versions, refused_in_both};
+use crate::{dead_code, dead_code_cases, long_threads, version_two, version_two_fences};
 
 /// A job, and the line that a person says for it from the paper.
 pub type Known = (Vec<u8>, String);
@@ -35,10 +36,19 @@ fn open(thread: u64, store: u64, load: u64) -> String {
     format!("OPEN {thread} {store} {load}")
 }
 
+/// Those of version 2 come behind those of version 1, which stay where they were.
 pub fn all() -> Vec<Vec<u8>> {
-    let said = all_known().into_iter().map(|(job, _)| job).collect();
-    let random = [random_jobs(), dead_code_cases::random_jobs()].concat();
-    [said, every_small_program(), random].concat()
+    let without_line = |known: Vec<Known>| known.into_iter().map(|(job, _)| job).collect();
+    [
+        without_line(known_of_version_one()),
+        every_small_program(),
+        random_jobs(),
+        dead_code_cases::random_jobs(),
+        without_line(known_of_version_two()),
+        version_two_fences::every_small_program(),
+        version_two_fences::random_jobs(),
+    ]
+    .concat()
 }
 
 /// How many cases have long threads, by class.
@@ -53,6 +63,12 @@ pub fn counts_of_dead_code() -> Counts {
     counts(&classes, dead_code::of_job, dead_code::of_fence_check)
 }
 
+/// How many cases are of version 2, and what their answers hang on, by class.
+pub fn counts_of_version_two() -> Counts {
+    let classes = [&version_two::of_jobs()[..], &version_two::OF_FENCE_CHECKS].concat();
+    counts(&classes, version_two::of_job, version_two::of_fence_check)
+}
+
 type ClassesOf = fn(&[u8]) -> Vec<&'static str>;
 
 fn counts(classes: &[&'static str], of_job: ClassesOf, of_fence_check: ClassesOf) -> Counts {
@@ -63,6 +79,15 @@ fn counts(classes: &[&'static str], of_job: ClassesOf, of_fence_check: ClassesOf
 
 /// The cases whose lines a person can say.
 pub fn all_known() -> Vec<Known> {
+    [known_of_version_one(), known_of_version_two()].concat()
+}
+
+fn known_of_version_two() -> Vec<Known> {
+    let refused = [refused_about_versions(), refused_in_both()].concat();
+    [version_two_fences::all_known(), refusals(refused)].concat()
+}
+
+fn known_of_version_one() -> Vec<Known> {
     [
         listed(),
         under_each_model(),
@@ -134,20 +159,25 @@ type Threads = Vec<Program>;
 
 /// One thread with its line, and the same thread behind one of no instructions.
 fn of_one_thread() -> Vec<(Threads, String)> {
-    let groups = [
+    let mut cases = Vec::new();
+    for (program, pair) in shapes() {
+        cases.push((vec![program.clone()], line_of(0, pair)));
+        cases.push((vec![vec![], program], line_of(1, pair)));
+    }
+    cases
+}
+
+/// One thread each.
+pub(crate) fn shapes() -> Vec<Thread> {
+    [
         straight(),
         barriers(),
         jumps(),
         loops(),
         branches(),
         least_pairs(),
-    ];
-    let mut cases = Vec::new();
-    for (program, pair) in groups.concat() {
-        cases.push((vec![program.clone()], line_of(0, pair)));
-        cases.push((vec![vec![], program], line_of(1, pair)));
-    }
-    cases
+    ]
+    .concat()
 }
 
 /// A thread's instructions, and its least open pair if it has one.
@@ -551,8 +581,11 @@ fn every_small_program() -> Vec<Vec<u8>> {
 
 /// Each refusal by the job itself.
 fn refused() -> Vec<Known> {
+    refusals([refused_jobs(), blank_goals(), too_long_threads()].concat())
+}
+
+fn refusals(jobs: Vec<Refused>) -> Vec<Known> {
     let known = |(job, refusal)| (job, refused_line(refusal));
-    let jobs = [refused_jobs(), blank_goals(), too_long_threads()].concat();
     jobs.into_iter().map(known).collect()
 }
 
@@ -571,15 +604,15 @@ fn random_jobs() -> Vec<Vec<u8>> {
     let mut random = Random::new(SEED);
     let mut jobs = vec![at_the_limit()];
     jobs.extend((0..WALK_JOBS).map(|_| walk_job(&mut random)));
-    jobs.extend((0..SOUND_JOBS).map(|_| sound_job(&mut random)));
-    jobs.extend((0..DAMAGED_JOBS).map(|_| damaged_job(&mut random)));
-    jobs.extend((0..DAMAGED_JOBS).map(|_| random_bytes(&mut random)));
+    jobs.extend((0..SOUND_JOBS).map(|_| sound_job_of(&mut random, 1)));
+    jobs.extend((0..DAMAGED_JOBS).map(|_| damaged_job_of(&mut random, 1)));
+    jobs.extend((0..DAMAGED_JOBS).map(|_| random_bytes_of(&mut random, 1)));
     jobs.retain(|job| job.len() <= ROOM_FOR_JOB);
     jobs
 }
 
 /// Few stores and loads among many jumps and fences, so that walks decide.
-fn walk_job(random: &mut Random) -> Vec<u8> {
+pub(crate) fn walk_job(random: &mut Random) -> Vec<u8> {
     let memory = random.pick(&MEMORIES);
     let threads = random.between(1, 4);
     let programs: Vec<Program> = (0..threads).map(|_| walk_program(random)).collect();

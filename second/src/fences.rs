@@ -61,7 +61,7 @@ pub fn live_in_threads(job: &Job) -> Vec<BTreeSet<usize>> {
     programs.map(|program| live_places(program)).collect()
 }
 
-/// What FENCE and XCHG are to a walk that comes to them.
+/// What FENCE, XCHG and CMPX are to a walk that comes to them.
 #[derive(Clone, Copy, PartialEq, Eq)]
 enum Barriers {
     /// They may be the end of a walk, but no walk goes on through one.
@@ -100,7 +100,9 @@ pub fn places_after(program: &[Instruction], place: usize) -> Vec<usize> {
         | Instruction::StoreRegister { .. }
         | Instruction::StoreConstant { .. }
         | Instruction::Fence
-        | Instruction::Exchange { .. } => vec![place + 1],
+        | Instruction::Exchange { .. }
+        | Instruction::CompareExchange { .. }
+        | Instruction::StoreFence => vec![place + 1],
     }
 }
 
@@ -120,10 +122,11 @@ fn is_load(instruction: Instruction) -> bool {
     matches!(instruction, Instruction::Load { .. })
 }
 
+/// WFENCE is none: a load may overtake the stores before it.
 pub fn is_barrier(instruction: Instruction) -> bool {
     matches!(
         instruction,
-        Instruction::Fence | Instruction::Exchange { .. }
+        Instruction::Fence | Instruction::Exchange { .. } | Instruction::CompareExchange { .. }
     )
 }
 

@@ -51,6 +51,14 @@ pub enum Instruction {
         register: usize,
         variable: usize,
     },
+    /// CMPX.
+    CompareExchange {
+        register: usize,
+        variable: usize,
+        value: u8,
+    },
+    /// WFENCE, which keeps stores apart from later stores.
+    StoreFence,
     JumpIfEqual {
         register: usize,
         target: usize,
@@ -86,6 +94,8 @@ pub struct Goal {
 
 #[derive(Clone, Debug, PartialEq, Eq)]
 pub struct Job {
+    /// It decides which operations a file may have, and nothing else.
+    pub version: u8,
     pub model: Model,
     pub capacity: usize,
     /// One entry a variable, so its length is V.
@@ -93,6 +103,18 @@ pub struct Job {
     /// One entry a thread, so its length is T.
     pub programs: Vec<Vec<Instruction>>,
     pub goal: Goal,
+}
+
+/// Of job files. This is the only place that says it: any other version is refused.
+pub const VERSIONS: RangeInclusive<u8> = 1..=2;
+
+/// The operation numbers that have a meaning in a file of this version.
+pub fn operations(version: u8) -> RangeInclusive<u8> {
+    match version {
+        1 => 1..=9,
+        // Request 7 brought CMPX and WFENCE.
+        _ => 1..=11,
+    }
 }
 
 /// Of one thread. This is the only place that says it: the longest file, the cases and the random jobs follow.
@@ -120,7 +142,7 @@ pub const LONGEST_FILE: usize = HEAD_BYTES
 pub fn decode(job: &[u8]) -> Result<Job, Refusal> {
     check_length(job)?;
     let mut reader = Reader { bytes: job, at: 2 };
-    reader.ranged_byte(2, |version| version == 1)?;
+    let version = reader.ranged_byte(2, |version| VERSIONS.contains(&version))?;
     let model = read_model(&mut reader)?;
     // The allowed capacities depend on the model, so the model is read before.
     let capacity = reader.ranged_byte(3, |c| capacity_fits(model, c))?;
@@ -129,11 +151,12 @@ pub fn decode(job: &[u8]) -> Result<Job, Refusal> {
     let initial = read_initial(&mut reader, variables)?;
     let mut programs = Vec::new();
     for _ in 0..threads {
-        programs.push(read_program(&mut reader, initial.len())?);
+        programs.push(read_program(&mut reader, version, initial.len())?);
     }
     let goal = read_goal(&mut reader, &programs, initial.len())?;
     reader.finish()?;
     Ok(Job {
+        version,
         model,
         capacity: usize::from(capacity),
         initial,
@@ -181,18 +204,23 @@ fn read_initial(reader: &mut Reader, variables: usize) -> Result<Vec<u8>, Refusa
     Ok(initial)
 }
 
-fn read_program(reader: &mut Reader, variables: usize) -> Result<Vec<Instruction>, Refusal> {
+fn read_program(
+    reader: &mut Reader,
+    version: u8,
+    variables: usize,
+) -> Result<Vec<Instruction>, Refusal> {
     let length = reader.ranged_count(4, 0..=MOST_INSTRUCTIONS)?;
     let mut program = Vec::new();
     for _ in 0..length {
         let (offset, bytes) = reader.quad()?;
-        let instruction = instruction_from(bytes, variables, length);
+        let has_meaning = operations(version).contains(&bytes[0]);
+        let instruction = instruction_from(bytes, variables, length).filter(|_| has_meaning);
         program.push(instruction.ok_or(Refusal { number: 4, offset })?);
     }
     Ok(program)
 }
 
-/// The instruction these four bytes mean, or nothing if they mean none.
+/// The instruction these four bytes mean in some version, or nothing if they mean none in any.
 fn instruction_from(
     [op, a, b, c]: [u8; 4],
     variables: usize,
@@ -246,7 +274,16 @@ fn instruction_from(
             .and(zero(c))
             .and(target())
             .map(|target| Instruction::Jump { target }),
-        0 | 10..=255 => None,
+        10 => Some(Instruction::CompareExchange {
+            register: register()?,
+            variable: variable()?,
+            value: c,
+        }),
+        11 => zero(a)
+            .and(zero(b))
+            .and(zero(c))
+            .map(|()| Instruction::StoreFence),
+        0 | 12..=255 => None,
     }
 }
 

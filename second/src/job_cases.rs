@@ -1,13 +1,19 @@
 //! Cases for the decoder, and the line that each is answered with.
 
 use crate::classes::Counts;
-use crate::job::{decode, LONGEST_FILE, MOST_INSTRUCTIONS};
+use crate::job::{self, decode, LONGEST_FILE, MOST_INSTRUCTIONS};
 use crate::listed::{
-    at_the_limit, bench_list, blank_goals, fewest_and_most_clauses, file, settled,
-    too_long_threads, with_byte, Program, AT_THE_START, FURTHEST_PLACE, P1, PSO, ROOM_FOR_JOB, SC,
-    TSO,
+    at_the_limit, bench_list, blank_goals, every_memory, fewest_and_most_clauses, file, in_version,
+    settled, too_long_threads, with_byte, Program, AT_THE_START, FURTHEST_PLACE, P1, PSO,
+    ROOM_FOR_JOB, SC, TSO,
 };
 use crate::long_threads::{of_job, MOST_BEFORE, OF_JOBS};
+use crate::version_two;
+use crate::version_two_jobs::{
+    at_the_limit_of_two, classics_of_two, message_passing_by_wfence, refused_about_versions,
+    refused_in_both,
+};
+use std::ops::RangeInclusive;
 
 /// What the program under test prints for a case.
 pub fn line(job: &[u8]) -> String {
@@ -31,14 +37,43 @@ pub fn all() -> Vec<Vec<u8>> {
         fewest_and_most_clauses(),
         too_long_threads().into_iter().map(|(job, _)| job).collect(),
         long_threads(),
+        of_version_two(),
     ];
     groups.concat()
+}
+
+/// These come behind the others, which stay where they were.
+fn of_version_two() -> Vec<Vec<u8>> {
+    let refused = [refused_about_versions(), refused_in_both()].concat();
+    let accepted = every_memory().into_iter().flat_map(classics_of_two);
+    let groups = [
+        versions(),
+        refused.into_iter().map(|(job, _)| job).collect(),
+        accepted.collect(),
+        damaged(&message_passing_by_wfence([PSO, 2])),
+        operations_of_two(),
+        about_the_longest(&at_the_limit_of_two()),
+        in_version_two(&at_limits()),
+        in_version_two(&bench_list()),
+        in_version_two(&fewest_and_most_clauses()),
+    ];
+    groups.concat()
+}
+
+fn in_version_two(jobs: &[Vec<u8>]) -> Vec<Vec<u8>> {
+    jobs.iter().map(|job| in_version(job, 2)).collect()
 }
 
 /// How many cases have long threads, by class.
 pub fn counts_of_long_threads() -> Counts {
     let met: Vec<_> = all().iter().map(|job| of_job(job)).collect();
     Counts::new(&OF_JOBS, &met)
+}
+
+/// How many cases are of version 2, by class.
+pub fn counts_of_version_two() -> Counts {
+    let met: Vec<_> = all().iter().map(|job| version_two::of_job(job)).collect();
+    Counts::new(&version_two::of_jobs(), &met)
 }
 
 /// Few zeros, sizes about the longest, and all the room there is.
@@ -70,22 +105,36 @@ fn lengths_about(bytes: &[u8]) -> Vec<Vec<u8>> {
     vec![set(right), set(right - 1), set(right + 1)]
 }
 
-/// P1 cut anywhere, grown, with each operation at its first place, and with each bit flipped.
 fn damaged_listed() -> Vec<Vec<u8>> {
-    let mut cases = lengths_about(&P1);
-    for count in 0..P1.len() {
-        cases.push(P1[..count].to_vec());
-        cases.push(settled(P1[..count].to_vec()));
+    damaged(&P1)
+}
+
+/// A job of two variables cut anywhere, grown, with each operation at its first place, and with each bit flipped.
+fn damaged(job: &[u8]) -> Vec<Vec<u8>> {
+    let mut cases = lengths_about(job);
+    for count in 0..job.len() {
+        cases.push(job[..count].to_vec());
+        cases.push(settled(job[..count].to_vec()));
     }
-    for count in P1.len() + 1..P1.len() + 6 {
-        cases.push(padded(&P1, count));
-        cases.push(settled(padded(&P1, count)));
+    for count in job.len() + 1..job.len() + 6 {
+        cases.push(padded(job, count));
+        cases.push(settled(padded(job, count)));
     }
-    cases.extend((0..=255).map(|op| with_byte(&P1, 10, op)));
-    for (at, byte) in P1.iter().enumerate() {
-        cases.extend((0..8).map(|bit| with_byte(&P1, at, byte ^ (1 << bit))));
+    cases.extend((0..=255).map(|op| with_byte(job, 10, op)));
+    for (at, byte) in job.iter().enumerate() {
+        cases.extend((0..8).map(|bit| with_byte(job, at, byte ^ (1 << bit))));
     }
     cases
+}
+
+/// Every version byte in the shortest file that has one, before operations that both versions have and before those of version 2.
+fn versions() -> Vec<Vec<u8>> {
+    let passing = message_passing_by_wfence([PSO, 2]);
+    let cases = (0..=255).flat_map(|version| {
+        let [both, one] = [&P1[..], &passing].map(|job| in_version(job, version));
+        [vec![0, 1, version], both, one]
+    });
+    cases.collect()
 }
 
 /// Version, model, C, T and V about their ranges; the first fault wins over later ones.
@@ -179,10 +228,22 @@ fn lying(job: &[u8], at: usize) -> Vec<Vec<u8>> {
 /// Operands are tried at these values, among which are the edges of every range in the jobs here.
 const NEAR: [u8; 12] = [0, 1, 2, 3, 4, 5, 6, 7, 8, 9, 128, 255];
 
-/// Each operand of each operation, among three variables and six places, in both threads.
+/// Each operand of each operation of version 1.
 fn operations() -> Vec<Vec<u8>> {
+    with_each_operand(job::operations(1))
+}
+
+/// The same of version 2, and of those operations that version 1 does not have in a file of it.
+fn operations_of_two() -> Vec<Vec<u8>> {
+    let of_two = with_each_operand(job::operations(2));
+    let only_of_two = job::operations(1).end() + 1..=*job::operations(2).end();
+    [in_version_two(&of_two), with_each_operand(only_of_two)].concat()
+}
+
+/// Each operand of these operations, among three variables and six places, in the second of two threads.
+fn with_each_operand(operations: RangeInclusive<u8>) -> Vec<Vec<u8>> {
     let mut cases = Vec::new();
-    for op in 1..=9 {
+    for op in operations {
         for operand in 1..=3 {
             for value in NEAR {
                 let mut instruction = [op, 0, 0, 0];
@@ -225,17 +286,20 @@ fn behind_another(clause: [u8; 4]) -> Vec<u8> {
     file(SC, &[0; 5], &programs, 0, &[[2, 2, 3, 255], clause])
 }
 
-/// The longest file, and it with a fault in its last instruction and in its last clause.
 fn at_limits() -> Vec<Vec<u8>> {
-    let longest = at_the_limit();
+    about_the_longest(&at_the_limit())
+}
+
+/// A longest file, and it with a fault in its last instruction and in its last clause.
+fn about_the_longest(longest: &[u8]) -> Vec<Vec<u8>> {
     let last_clause = longest.len() - 4;
     // Sixteen clauses, K and the flag stand behind it.
     let last_instruction = longest.len() - 4 * 16 - 2 - 4;
-    let mut cases = lengths_about(&longest);
+    let mut cases = lengths_about(longest);
     for begin in [last_instruction, last_clause] {
         for at in begin..begin + 4 {
             let values = [0, 4, 8, FURTHEST_PLACE + 1, 255];
-            cases.extend(values.map(|value| with_byte(&longest, at, value)));
+            cases.extend(values.map(|value| with_byte(longest, at, value)));
         }
     }
     for count in longest.len() - 5..longest.len() {

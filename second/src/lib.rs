@@ -3,6 +3,7 @@
 //! It favours plainness over memory: growing vectors, hash maps and explicit level sets.
 
 pub mod bench;
+pub mod buffer;
 pub mod classes;
 pub mod dead_code;
 pub mod dead_code_cases;
@@ -22,6 +23,10 @@ pub mod replay;
 pub mod replay_cases;
 pub mod search;
 pub mod search_cases;
+pub mod version_two;
+pub mod version_two_fences;
+pub mod version_two_jobs;
+pub mod version_two_replays;
 
 pub use bench::bench_lines;
 pub use fences::fences;

@@ -27,6 +27,13 @@ pub const PSO: u8 = 2;
 /// Each model, with capacities at both ends of their range and between.
 pub const MEMORIES: [Memory; 6] = [SC, [TSO, 1], [TSO, 2], [PSO, 1], [PSO, 2], [PSO, 8]];
 
+/// Each model, with each capacity where there are buffers.
+pub fn every_memory() -> Vec<Memory> {
+    let buffered = [TSO, PSO].into_iter();
+    let buffered = buffered.flat_map(|model| (1..=8).map(move |capacity| [model, capacity]));
+    [SC].into_iter().chain(buffered).collect()
+}
+
 /// The clause that thread 0 is at place 0: every job may ask for it, and it holds at the start.
 pub const AT_THE_START: [u8; 4] = [1, 0, 0, 0];
 
@@ -69,6 +76,16 @@ pub fn with_byte(bytes: &[u8], at: usize, value: u8) -> Vec<u8> {
     changed
 }
 
+/// The same job in another version: the numbers that say how long things are stay right.
+pub fn in_version(job: &[u8], version: u8) -> Vec<u8> {
+    with_byte(job, 2, version)
+}
+
+/// The same job under another model and capacity.
+pub fn under(job: &[u8], memory: Memory) -> Vec<u8> {
+    [&job[..3], &memory, &job[5..]].concat()
+}
+
 /// P1's threads under this model, with these bytes for a goal: its flag stands at 27 and K at 28.
 fn p1_with_goal(memory: Memory, goal: &[u8]) -> Vec<u8> {
     settled([&P1[..3], &memory, &P1[5..27], goal].concat())
@@ -91,7 +108,7 @@ pub const P12_REFUSAL: [u64; 2] = [5, 28];
 
 /// The jobs of P1 to P11, in that order; P11 speaks of no job of its own and takes P10's.
 pub fn accepted_list() -> Vec<Vec<u8>> {
-    let p2 = [&P1[..3], &SC, &P1[5..]].concat();
+    let p2 = under(&P1, SC);
     let p3 = with_byte(&P1, 27, 1);
     vec![
         P1.to_vec(),
@@ -206,7 +223,8 @@ pub fn refused_jobs() -> Vec<Refused> {
     let longer = [&at_the_limit()[..], &[0]].concat();
     vec![
         (vec![], [1, 0]),
-        (vec![0, 1, 2], [2, 2]),
+        // No version, and none that a later request brings.
+        (vec![0, 1, 0], [2, 2]),
         (vec![0, 1, 1], [6, 3]),
         (with_byte(&P1, 3, 3), [3, 3]),
         (with_byte(&P1, 10, 10), [4, 10]),
@@ -271,7 +289,7 @@ pub fn blank_goals() -> Vec<Refused> {
             (goal(&[0, 0, 0]), [5, 28]),
             // Faults further in front.
             (with_byte(&blank, 1, 26), [1, 0]),
-            (with_byte(&blank, 2, 2), [2, 2]),
+            (with_byte(&blank, 2, 4), [2, 2]),
             (with_byte(&blank, 5, 0), [3, 5]),
             (with_byte(&blank, 10, 10), [4, 10]),
             (with_byte(&blank, 23, 0), [4, 23]),
@@ -314,7 +332,7 @@ fn long_program(thread: u8) -> Program {
         .collect()
 }
 
-fn limit_instruction(turn: u8) -> [u8; 4] {
+pub(crate) fn limit_instruction(turn: u8) -> [u8; 4] {
     match turn % 9 {
         0 => [1, 3, 0, 255],
         1 => [2, 3, 0, 255],
@@ -329,7 +347,7 @@ fn limit_instruction(turn: u8) -> [u8; 4] {
     }
 }
 
-fn limit_clause(turn: u8) -> [u8; 4] {
+pub(crate) fn limit_clause(turn: u8) -> [u8; 4] {
     match turn % 3 {
         0 => [1, 3, 0, FURTHEST_PLACE],
         1 => [2, 3, 3, 255],

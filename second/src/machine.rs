@@ -1,5 +1,6 @@
 //! Machine states and the steps between them.
 
+pub use crate::buffer::{Buffer, Pending};
 use crate::job::{Clause, Instruction, Job, Model};
 use std::collections::BTreeMap;
 use std::hash::{Hash, Hasher};
@@ -7,20 +8,11 @@ use std::rc::Rc;
 
 pub const SLOT_BYTES: usize = 96;
 
-/// A store on its way to memory.
-#[derive(Clone, Copy, Debug, PartialEq, Eq)]
-pub struct Pending {
-    pub variable: u8,
-    pub value: u8,
-}
-
-/// A thread's buffer is a list of queues ("lanes"), oldest store first in each:
-/// none under SC, one for everything under TSO, one a variable under PSO.
 #[derive(Clone, Debug, PartialEq, Eq)]
 pub struct Thread {
     pub place: usize,
     pub registers: [u8; 4],
-    pub lanes: Vec<Vec<Pending>>,
+    pub buffer: Buffer,
 }
 
 /// Threads are shared between states, because a step changes at most one of them.
@@ -32,32 +24,33 @@ pub struct State {
 
 impl Thread {
     fn at_start(job: &Job) -> Thread {
-        let lanes = match job.model {
-            Model::Sc => 0,
-            Model::Tso => 1,
-            Model::Pso => job.initial.len(),
-        };
         Thread {
             place: 0,
             registers: [0; 4],
-            lanes: vec![Vec::new(); lanes],
+            buffer: Buffer::empty(lanes(job)),
         }
     }
 
     pub fn pending(&self) -> usize {
-        self.lanes.iter().map(Vec::len).sum()
+        self.buffer.pending()
     }
+}
 
-    /// The newest own store to the variable that is still pending.
-    fn newest(&self, variable: usize) -> Option<u8> {
-        // All stores to one variable share a lane, so the first hit from the back is the newest.
-        let hit = |lane: &Vec<Pending>| {
-            lane.iter()
-                .rev()
-                .find(|store| usize::from(store.variable) == variable)
-                .copied()
-        };
-        self.lanes.iter().find_map(hit).map(|store| store.value)
+/// SC has no buffers, TSO keeps all stores of a thread in order, and PSO those to each variable.
+fn lanes(job: &Job) -> usize {
+    match job.model {
+        Model::Sc => 0,
+        Model::Tso => 1,
+        Model::Pso => job.initial.len(),
+    }
+}
+
+/// The lane that stores to the variable join and leave by.
+fn lane_of(model: Model, variable: usize) -> Option<usize> {
+    match model {
+        Model::Sc => None,
+        Model::Tso => Some(0),
+        Model::Pso => Some(variable),
     }
 }
 
@@ -98,12 +91,8 @@ impl State {
         slot.resize(20, 0);
         slot.extend(&self.memory);
         slot.resize(28, 0);
-        for (index, thread) in self.threads.iter().enumerate() {
-            slot.push(thread.pending() as u8);
-            for store in thread.lanes.iter().flatten() {
-                slot.extend([store.variable, store.value]);
-            }
-            slot.resize(28 + 17 * (index + 1), 0);
+        for thread in &self.threads {
+            slot.extend(thread.buffer.bytes());
         }
         slot.resize(SLOT_BYTES, 0);
         slot
@@ -174,7 +163,7 @@ impl Reason {
             Reason::BufferFull => buffer_full(job, state, number),
             Reason::BufferNotEmpty => buffer_not_empty(job, state, number),
             Reason::NothingToFlush => nothing_to_flush(state, number),
-            Reason::NotTheOldest => not_the_oldest(job, state, number),
+            Reason::NotTheOldest => not_the_oldest(state, number),
         }
     }
 }
@@ -208,22 +197,26 @@ fn buffer_full(job: &Job, state: &State, number: u8) -> bool {
                 next_instruction(job, state, thread),
                 Some(Instruction::StoreRegister { .. } | Instruction::StoreConstant { .. })
             );
-            let is_full = pending_of(state, thread).count() >= job.capacity;
+            let is_full = of_buffer(state, thread, |buffer| buffer.pending() >= job.capacity);
             job.model != Model::Sc && is_store && is_full
         }
         Some(Step::Flush { .. }) | None => false,
     }
 }
 
-/// Execute steps: FENCE or XCHG while a store of the thread is pending.
+/// Execute steps: FENCE, XCHG or CMPX while a store of the thread is pending, also if the CMPX will not match.
 fn buffer_not_empty(job: &Job, state: &State, number: u8) -> bool {
     match Step::from_number(number) {
         Some(Step::Execute { thread }) => {
             let waits_for_empty = matches!(
                 next_instruction(job, state, thread),
-                Some(Instruction::Fence | Instruction::Exchange { .. })
+                Some(
+                    Instruction::Fence
+                        | Instruction::Exchange { .. }
+                        | Instruction::CompareExchange { .. }
+                )
             );
-            waits_for_empty && pending_of(state, thread).count() > 0
+            waits_for_empty && of_buffer(state, thread, |buffer| buffer.pending() > 0)
         }
         Some(Step::Flush { .. }) | None => false,
     }
@@ -232,20 +225,19 @@ fn buffer_not_empty(job: &Job, state: &State, number: u8) -> bool {
 /// Flush steps: no store of the thread to the variable is pending. Under SC that is always so.
 fn nothing_to_flush(state: &State, number: u8) -> bool {
     match Step::from_number(number) {
-        Some(Step::Flush { thread, variable }) => !has_pending_to(state, thread, variable),
+        Some(Step::Flush { thread, variable }) => {
+            !of_buffer(state, thread, |buffer| buffer.has_pending_to(variable))
+        }
         Some(Step::Execute { .. }) | None => false,
     }
 }
 
-/// Flush steps under TSO: a store to the variable is pending, but the oldest is to another.
-fn not_the_oldest(job: &Job, state: &State, number: u8) -> bool {
+/// Flush steps: a store to the variable is pending, but under TSO the oldest is to another, and under PSO the oldest group has none to it.
+fn not_the_oldest(state: &State, number: u8) -> bool {
     match Step::from_number(number) {
-        Some(Step::Flush { thread, variable }) => {
-            // Under TSO all of a thread's stores stand in one lane, so the first is the oldest.
-            let oldest = pending_of(state, thread).next();
-            let is_behind = oldest.map_or(false, |store| usize::from(store.variable) != variable);
-            job.model == Model::Tso && has_pending_to(state, thread, variable) && is_behind
-        }
+        Some(Step::Flush { thread, variable }) => of_buffer(state, thread, |buffer| {
+            buffer.has_pending_to(variable) && !buffer.may_flush(variable)
+        }),
         Some(Step::Execute { .. }) | None => false,
     }
 }
@@ -256,14 +248,10 @@ fn next_instruction(job: &Job, state: &State, thread: usize) -> Option<Instructi
     job.programs.get(thread)?.get(place).copied()
 }
 
-/// The thread's stores on their way to memory: none if it is not there.
-fn pending_of(state: &State, thread: usize) -> impl Iterator<Item = &Pending> {
-    let threads = state.threads.get(thread).into_iter();
-    threads.flat_map(|thread| thread.lanes.iter().flatten())
-}
-
-fn has_pending_to(state: &State, thread: usize, variable: usize) -> bool {
-    pending_of(state, thread).any(|store| usize::from(store.variable) == variable)
+/// Whether this holds of the thread's buffer: never if the thread is not there.
+fn of_buffer(state: &State, thread: usize, holds: impl Fn(&Buffer) -> bool) -> bool {
+    let thread = state.threads.get(thread);
+    thread.map_or(false, |thread| holds(&thread.buffer))
 }
 
 /// The first reason that applies to a step, if one does; without one the step is enabled.
@@ -288,11 +276,7 @@ fn state_after(job: &Job, state: &State, number: u8) -> Option<State> {
     match Step::from_number(number)? {
         Step::Execute { thread } => execute(job, state, thread),
         Step::Flush { thread, variable } => {
-            let lane = match job.model {
-                Model::Sc => return None,
-                Model::Tso => 0,
-                Model::Pso => variable,
-            };
+            let lane = lane_of(job.model, variable)?;
             flush(state, thread, lane).map(|(_, next)| next)
         }
     }
@@ -311,7 +295,7 @@ pub fn successors(job: &Job, state: &State) -> BTreeMap<u8, State> {
         if let Some(next) = execute(job, state, thread) {
             moves.insert(thread as u8, next);
         }
-        for lane in 0..state.threads[thread].lanes.len() {
+        for lane in 0..lanes(job) {
             if let Some((variable, next)) = flush(state, thread, lane) {
                 moves.insert(4 + 8 * thread as u8 + variable, next);
             }
@@ -320,13 +304,13 @@ pub fn successors(job: &Job, state: &State) -> BTreeMap<u8, State> {
     moves
 }
 
-/// Moves the oldest store of a lane to memory, if the lane has one.
+/// Moves the store of a lane that may flush to memory, if there is one.
 fn flush(state: &State, thread: usize, lane: usize) -> Option<(u8, State)> {
-    let oldest = *state.threads[thread].lanes[lane].first()?;
+    let store = state.threads[thread].buffer.next_of(lane)?;
     let mut next = state.clone();
-    Rc::make_mut(&mut next.threads[thread]).lanes[lane].remove(0);
-    next.memory[usize::from(oldest.variable)] = oldest.value;
-    Some((oldest.variable, next))
+    Rc::make_mut(&mut next.threads[thread]).buffer.flush(lane);
+    next.memory[usize::from(store.variable)] = store.value;
+    Some((store.variable, next))
 }
 
 /// Runs one instruction of a thread, unless the thread has ended or has to wait.
@@ -347,7 +331,8 @@ fn execute(job: &Job, state: &State, thread: usize) -> Option<State> {
             own.registers[register] = (sum % 256) as u8;
         }
         Instruction::Load { register, variable } => {
-            own.registers[register] = own.newest(variable).unwrap_or(memory[variable]);
+            let pending = own.buffer.newest(variable);
+            own.registers[register] = pending.unwrap_or(memory[variable]);
         }
         Instruction::StoreRegister { register, variable } => {
             let value = own.registers[register];
@@ -359,6 +344,23 @@ fn execute(job: &Job, state: &State, thread: usize) -> Option<State> {
         Instruction::Fence => {}
         Instruction::Exchange { register, variable } => {
             std::mem::swap(&mut own.registers[register], &mut memory[variable]);
+        }
+        Instruction::CompareExchange {
+            register,
+            variable,
+            value,
+        } => {
+            let old = memory[variable];
+            if old == own.registers[register] {
+                memory[variable] = value;
+            }
+            own.registers[register] = old;
+        }
+        // Under SC and TSO stores reach memory in order anyway.
+        Instruction::StoreFence => {
+            if job.model == Model::Pso {
+                own.buffer.put_wfence();
+            }
         }
         Instruction::JumpIfEqual {
             register,
@@ -380,10 +382,14 @@ fn must_wait(job: &Job, thread: &Thread, instruction: Instruction) -> bool {
         Instruction::StoreRegister { .. } | Instruction::StoreConstant { .. } => {
             job.model != Model::Sc && thread.pending() >= job.capacity
         }
-        Instruction::Fence | Instruction::Exchange { .. } => thread.pending() > 0,
+        Instruction::Fence | Instruction::Exchange { .. } | Instruction::CompareExchange { .. } => {
+            thread.pending() > 0
+        }
+        // WFENCE runs on a full buffer, too: it takes no room.
         Instruction::Set { .. }
         | Instruction::Add { .. }
         | Instruction::Load { .. }
+        | Instruction::StoreFence
         | Instruction::JumpIfEqual { .. }
         | Instruction::Jump { .. } => false,
     }
@@ -394,9 +400,8 @@ fn store(model: Model, thread: &mut Thread, memory: &mut [u8], variable: usize, 
         variable: variable as u8,
         value,
     };
-    match model {
-        Model::Sc => memory[variable] = value,
-        Model::Tso => thread.lanes[0].push(pending),
-        Model::Pso => thread.lanes[variable].push(pending),
+    match lane_of(model, variable) {
+        None => memory[variable] = value,
+        Some(lane) => thread.buffer.join(lane, pending),
     }
 }

@@ -1,6 +1,6 @@
 //! Repeatable random jobs, buffer sizes and schedules for a comparison.
 
-use crate::job::{decode, Job, LONGEST_FILE, MOST_INSTRUCTIONS};
+use crate::job::{decode, Job, Model, LONGEST_FILE, MOST_INSTRUCTIONS, VERSIONS};
 use crate::listed::AT_THE_START;
 use crate::machine::{reason, successors, Reason, State, Step, SLOT_BYTES};
 use crate::search::search;
@@ -72,10 +72,22 @@ pub fn case(random: &mut Random) -> Case {
     }
 }
 
+/// Each version as often as the others.
+pub fn some_version(random: &mut Random) -> u8 {
+    let [first, last] = [*VERSIONS.start(), *VERSIONS.end()].map(usize::from);
+    random.between(first, last) as u8
+}
+
 // ---- (a) random bytes ----
 
 /// Random bytes, often with a front good enough to get past the first checks.
 pub fn random_bytes(random: &mut Random) -> Vec<u8> {
+    let version = some_version(random);
+    random_bytes_of(random, version)
+}
+
+/// The same, where a good front has this version.
+pub fn random_bytes_of(random: &mut Random, version: u8) -> Vec<u8> {
     // The last is a little more than a file may have.
     let most_bytes = random.pick(&[4, 20, 60, LONGEST_FILE + 23]);
     // Small bytes mean something far more often than large ones.
@@ -86,7 +98,8 @@ pub fn random_bytes(random: &mut Random) -> Vec<u8> {
         fix_length(&mut bytes);
     }
     if random.percent(66) {
-        for (byte, good) in bytes.iter_mut().skip(2).zip(good_front(random)) {
+        let front = good_front(random, version);
+        for (byte, good) in bytes.iter_mut().skip(2).zip(front) {
             *byte = good;
         }
     }
@@ -94,11 +107,11 @@ pub fn random_bytes(random: &mut Random) -> Vec<u8> {
 }
 
 /// Version, model, C, T and V within their ranges.
-fn good_front(random: &mut Random) -> [u8; 5] {
+fn good_front(random: &mut Random, version: u8) -> [u8; 5] {
     let model = random.below(3) as u8;
     let capacity = some_capacity(random, model);
     [
-        1,
+        version,
         model,
         capacity,
         random.between(1, 4) as u8,
@@ -119,6 +132,8 @@ fn fix_length(bytes: &mut [u8]) {
 /// A job file in pieces; count bytes stand apart from what they count, so that they can lie.
 #[derive(Clone, Debug)]
 struct Draft {
+    /// The version whose operations it has; the version byte may lie.
+    drawn_for: u8,
     version: u8,
     model: u8,
     capacity: u8,
@@ -161,17 +176,31 @@ impl Draft {
 
 /// A job that is accepted, with a goal that a random walk has mostly been at.
 pub fn sound_job(random: &mut Random) -> Vec<u8> {
-    sound_draft(random).bytes()
+    let version = some_version(random);
+    sound_job_of(random, version)
 }
 
-fn sound_draft(random: &mut Random) -> Draft {
+/// The same in this version.
+pub fn sound_job_of(random: &mut Random, version: u8) -> Vec<u8> {
+    sound_draft(random, version).bytes()
+}
+
+fn sound_draft(random: &mut Random, version: u8) -> Draft {
     let longest = random.percent(2);
-    let mut draft = draft_with_any_goal(random, longest);
-    choose_goal(random, &mut draft, longest);
+    let mut draft = draft_with_any_goal(random, version, longest);
+    let in_groups = version > 1 && !longest && random.percent(50);
+    if in_groups {
+        fill_with_groups(random, &mut draft);
+    }
+    if in_groups && random.percent(40) {
+        choose_goal_without_wfences(random, &mut draft);
+    } else {
+        choose_goal(random, &mut draft, longest);
+    }
     draft
 }
 
-fn draft_with_any_goal(random: &mut Random, longest: bool) -> Draft {
+fn draft_with_any_goal(random: &mut Random, version: u8, longest: bool) -> Draft {
     let model = random.below(3) as u8;
     let threads = if longest {
         4
@@ -186,10 +215,12 @@ fn draft_with_any_goal(random: &mut Random, longest: bool) -> Draft {
         } else {
             some_count(random)
         };
-        programs.push(sound_program(random, count, variables));
+        let operations = some_operations(random, version);
+        programs.push(sound_program(random, operations, count, variables));
     }
     Draft {
-        version: 1,
+        drawn_for: version,
+        version,
         model,
         capacity: some_capacity(random, model),
         thread_count: threads,
@@ -200,6 +231,39 @@ fn draft_with_any_goal(random: &mut Random, longest: bool) -> Draft {
         // A job without a goal is refused, so this one stands in until a walk shows a better one.
         clause_count: 1,
         clauses: vec![AT_THE_START],
+    }
+}
+
+/// One or two threads whose buffers hold several groups; now and then under TSO, where WFENCE does nothing.
+fn fill_with_groups(random: &mut Random, draft: &mut Draft) {
+    draft.model = random.pick(&[1, 2, 2, 2, 2]);
+    draft.capacity = random.between(1, 8) as u8;
+    let variables = random.pick(&[2, 2, 3, 4, 8]);
+    draft.variable_count = variables as u8;
+    draft.initial.resize(variables, 0);
+    draft.programs.truncate(random.pick(&[1, 1, 2]));
+    draft.thread_count = draft.programs.len() as u8;
+    for program in &mut draft.programs {
+        *program = grouped_program(random, variables);
+    }
+}
+
+/// A store or two, a WFENCE and now and then a load, over and over.
+fn grouped_program(random: &mut Random, variables: usize) -> Program {
+    let [stores, wfence, loads, waits]: [&[u8]; 4] = [&[4, 5, 5, 5], &[11], &[3], &[10, 10, 6, 7]];
+    let mut kinds = Vec::new();
+    for _ in 0..random.between(1, 4) {
+        kinds.extend(vec![stores; random.pick(&[1, 1, 1, 2])]);
+        kinds.extend(vec![wfence; random.pick(&[0, 1, 1, 1, 1, 2])]);
+        kinds.extend(vec![loads; random.pick(&[0, 0, 1])]);
+        kinds.extend(vec![waits; random.pick(&[0, 0, 0, 0, 0, 1])]);
+    }
+    let count = kinds.len();
+    let instructions = kinds.into_iter();
+    let instructions = instructions.map(|kind| sound_instruction(random, kind, count, variables));
+    Program {
+        count: count as u8,
+        instructions: instructions.collect(),
     }
 }
 
@@ -239,14 +303,19 @@ fn some_value(random: &mut Random) -> u8 {
     }
 }
 
-fn sound_program(random: &mut Random, count: usize, variables: usize) -> Program {
+fn sound_program(
+    random: &mut Random,
+    operations: &[u8],
+    count: usize,
+    variables: usize,
+) -> Program {
     let front = quiet_front(random, count);
     let mut instructions: Vec<[u8; 4]> = (0..count)
         .map(|place| {
             if place < front {
                 quiet_instruction(random)
             } else {
-                sound_instruction(random, count, variables)
+                sound_instruction(random, operations, count, variables)
             }
         })
         .collect();
@@ -274,18 +343,35 @@ fn quiet_instruction(random: &mut Random) -> [u8; 4] {
     [random.pick(&[1, 2]), register, 0, some_value(random)]
 }
 
-fn sound_instruction(random: &mut Random, count: usize, variables: usize) -> [u8; 4] {
+/// The operations that a program is drawn from, those that make threads meet more often than others.
+fn some_operations(random: &mut Random, version: u8) -> &'static [u8] {
+    match version {
+        1 => &OF_VERSION_ONE,
+        _ if random.percent(10) => &OF_VERSION_ONE,
+        _ => &[1, 2, 3, 3, 3, 4, 4, 5, 5, 5, 6, 7, 8, 9, 10, 10, 11, 11],
+    }
+}
+
+const OF_VERSION_ONE: [u8; 14] = [1, 2, 3, 3, 3, 4, 4, 5, 5, 5, 6, 7, 8, 9];
+
+fn sound_instruction(
+    random: &mut Random,
+    operations: &[u8],
+    count: usize,
+    variables: usize,
+) -> [u8; 4] {
     let register = random.pick(&[0, 0, 0, 1, 1, 2, 3]);
     let variable = random.below(variables) as u8;
     let place = random.between(0, count) as u8;
     let value = some_value(random);
-    match random.pick(&[1, 2, 3, 3, 3, 4, 4, 5, 5, 5, 6, 7, 8, 9]) {
+    match random.pick(operations) {
         op @ (1 | 2) => [op, register, 0, value],
         op @ (3 | 4 | 7) => [op, register, variable, 0],
         5 => [5, 0, variable, value],
-        6 => [6, 0, 0, 0],
+        op @ (6 | 11) => [op, 0, 0, 0],
         8 => [8, register, place, value],
         9 => [9, 0, place, 0],
+        10 => [10, register, variable, value],
         other => panic!("{other} is no operation"),
     }
 }
@@ -346,6 +432,42 @@ fn end_of_walk(random: &mut Random, draft: &Draft) -> State {
     state
 }
 
+/// Places and memory that a walk comes by where nothing keeps stores apart, so that WFENCEs may shut them out.
+fn choose_goal_without_wfences(random: &mut Random, draft: &mut Draft) {
+    draft.flag = 0;
+    let job = decode(&without_wfences(draft).bytes()).expect("a draft with any goal is sound");
+    let (_, states) = busy_walk(random, &job);
+    // One store has gone before another: only there can they have changed places.
+    let between = |state: &&State| {
+        let waits = state.threads.iter().any(|thread| thread.pending() > 0);
+        waits && state.memory != job.initial
+    };
+    let between: Vec<&State> = states.iter().filter(between).collect();
+    let state = match between.len() {
+        0 => &states[0],
+        count => between[random.below(count)],
+    };
+    let places = (0..).zip(&state.threads);
+    let memory = (0..).zip(&state.memory);
+    draft.clauses = places
+        .map(|(thread, own)| [1, thread, 0, own.place as u8])
+        .chain(memory.map(|(variable, &value)| [3, variable, 0, value]))
+        .collect();
+    draft.clause_count = draft.clauses.len() as u8;
+}
+
+/// The same draft with ADD 0 in place of each WFENCE.
+fn without_wfences(draft: &Draft) -> Draft {
+    let mut changed = draft.clone();
+    let programs = changed.programs.iter_mut();
+    for instruction in programs.flat_map(|program| &mut program.instructions) {
+        if instruction[0] == 11 {
+            *instruction = [2, 0, 0, 0];
+        }
+    }
+    changed
+}
+
 /// A clause that is true of the state.
 fn clause_about(random: &mut Random, state: &State) -> [u8; 4] {
     let thread = random.below(state.threads.len());
@@ -386,7 +508,13 @@ fn contradict_a_clause(random: &mut Random, draft: &Draft, clauses: &mut Vec<[u8
 
 /// A sound job with one or two faults, or values at the edge of a fault.
 pub fn damaged_job(random: &mut Random) -> Vec<u8> {
-    let mut draft = sound_draft(random);
+    let version = some_version(random);
+    damaged_job_of(random, version)
+}
+
+/// The same from a job of this version.
+pub fn damaged_job_of(random: &mut Random, version: u8) -> Vec<u8> {
+    let mut draft = sound_draft(random, version);
     // Two faults at once show which one wins.
     let (edges, scars) = random.pick(&[(1, 0), (1, 0), (2, 0), (1, 1), (0, 1), (0, 2)]);
     for _ in 0..edges {
@@ -458,7 +586,7 @@ fn wrong_length(random: &mut Random, bytes: &mut [u8]) {
 /// Puts one field at or just over the edge of its range.
 fn push_to_edge(random: &mut Random, draft: &mut Draft) {
     match random.below(13) {
-        0 => draft.version = random.pick(&[0, 2, 255]),
+        0 => edge_version(random, draft),
         1 => draft.model = random.pick(&[0, 1, 2, 3, 255]),
         2 => draft.capacity = random.pick(&[0, 1, 8, 9, 255]),
         3 => edge_thread_count(random, draft),
@@ -471,11 +599,21 @@ fn push_to_edge(random: &mut Random, draft: &mut Draft) {
     }
 }
 
+/// Numbers that are no version in later requests either; for a job that may have CMPX and WFENCE also 1, which has neither.
+fn edge_version(random: &mut Random, draft: &mut Draft) {
+    draft.version = match draft.drawn_for {
+        1 => random.pick(&[0, 4, 255]),
+        _ => random.pick(&[0, 1, 1, 1, 4, 255]),
+    };
+}
+
 fn edge_thread_count(random: &mut Random, draft: &mut Draft) {
     draft.thread_count = random.pick(&[0, 1, 4, 5]);
     if random.percent(60) {
         let count = some_count(random);
-        let filler = sound_program(random, count, draft.initial.len().max(1));
+        let variables = draft.initial.len().max(1);
+        let operations = some_operations(random, draft.drawn_for);
+        let filler = sound_program(random, operations, count, variables);
         draft
             .programs
             .resize(usize::from(draft.thread_count), filler);
@@ -502,7 +640,10 @@ fn edge_program_count(random: &mut Random, draft: &mut Draft) {
             count: count as u8,
             instructions: draft.programs[thread].instructions.clone(),
         },
-        _ => sound_program(random, count, variables),
+        _ => {
+            let operations = some_operations(random, draft.drawn_for);
+            sound_program(random, operations, count, variables)
+        }
     };
 }
 
@@ -516,6 +657,7 @@ fn edge_clause_count(random: &mut Random, draft: &mut Draft) {
 }
 
 fn edge_instruction(random: &mut Random, draft: &mut Draft) {
+    let version = draft.drawn_for;
     let variables = draft.variable_count;
     let filled = |program: &&mut Program| !program.instructions.is_empty();
     let mut programs: Vec<&mut Program> = draft.programs.iter_mut().filter(filled).collect();
@@ -525,10 +667,10 @@ fn edge_instruction(random: &mut Random, draft: &mut Draft) {
     let chosen = random.below(programs.len());
     let count = programs[chosen].count;
     let place = random.below(programs[chosen].instructions.len());
-    programs[chosen].instructions[place] = instruction_at_edge(random, count, variables);
+    programs[chosen].instructions[place] = instruction_at_edge(random, version, count, variables);
 }
 
-fn instruction_at_edge(random: &mut Random, count: u8, variables: u8) -> [u8; 4] {
+fn instruction_at_edge(random: &mut Random, version: u8, count: u8, variables: u8) -> [u8; 4] {
     let register = random.pick(&[0, 3, 3, 4, 255]);
     let variable = random.pick(&[0, variables.wrapping_sub(1), variables, 255]);
     let place = random.pick(&[0, count, count, count.wrapping_add(1), 255]);
@@ -536,13 +678,21 @@ fn instruction_at_edge(random: &mut Random, count: u8, variables: u8) -> [u8; 4]
     // Bytes that must be 0 are 0 mostly, so that the operand is what is judged.
     let zero = random.pick(&[0, 0, 0, 0, 1, 255]);
     let other_zero = random.pick(&[0, 0, 0, 0, 1]);
-    match random.pick(&[0, 1, 2, 3, 4, 5, 6, 7, 8, 8, 9, 9, 10, 255]) {
+    let tried: &[u8] = match version {
+        1 => &[0, 1, 2, 3, 4, 5, 6, 7, 8, 8, 9, 9, 10, 255],
+        _ => &[
+            0, 1, 2, 3, 4, 5, 6, 7, 8, 9, 10, 10, 10, 11, 11, 11, 12, 255,
+        ],
+    };
+    match random.pick(tried) {
         op @ (1 | 2) => [op, register, zero, value],
         op @ (3 | 4 | 7) => [op, register, variable, zero],
         5 => [5, zero, variable, value],
         6 => [6, zero, other_zero, random.pick(&[0, 0, 0, 1])],
         8 => [8, register, place, value],
         9 => [9, zero, place, other_zero],
+        10 if version > 1 => [10, register, variable, value],
+        11 => [11, zero, other_zero, random.pick(&[0, 0, 0, 1])],
         // All operands 0 would be in range anywhere, so only the number can be at fault.
         op => [op, 0, 0, 0],
     }
@@ -710,6 +860,11 @@ pub fn stuck_schedule(random: &mut Random, job: &[u8]) -> Vec<u8> {
     if reasons.iter().any(is_seldom) && random.percent(60) {
         reasons.retain(is_seldom);
     }
+    let behind = Reason::NotTheOldest;
+    // Under PSO it takes groups, which few walks come to.
+    if job.model == Model::Pso && reasons.contains(&behind) && random.percent(60) {
+        reasons = vec![behind];
+    }
     let picked = random.pick(&reasons);
     let (taken, number) = random.pick(&withheld[&picked]);
     [&walk[..taken], &[number]].concat()
@@ -767,6 +922,10 @@ pub fn found_schedule(job: &[u8]) -> Vec<u8> {
 fn walk_schedule(random: &mut Random, job: &[u8]) -> Vec<u8> {
     let mut schedule = Vec::new();
     if let Ok(job) = decode(job) {
+        // Groups need stores that wait.
+        if job.version > 1 && random.percent(50) {
+            return busy_walk(random, &job).0;
+        }
         let mut state = State::start(&job);
         for _ in 0..random.between(0, 40) {
             let mut moves: Vec<(u8, State)> = successors(&job, &state).into_iter().collect();

@@ -28,15 +28,15 @@ pub fn pinned() -> Vec<Known> {
 }
 
 /// Stands where a reason could, for a step that is taken.
-const TAKEN: u8 = 0;
+pub(crate) const TAKEN: u8 = 0;
 
 /// A goal that holds in every state here, since no thread uses that register: a schedule that isn't stuck reaches it.
-const ALWAYS: [[u8; 4]; 1] = [[2, 0, 3, 0]];
+pub(crate) const ALWAYS: [[u8; 4]; 1] = [[2, 0, 3, 0]];
 
-const FENCE: [u8; 4] = [6, 0, 0, 0];
-const EXCHANGE: [u8; 4] = [7, 0, 0, 0];
+pub(crate) const FENCE: [u8; 4] = [6, 0, 0, 0];
+pub(crate) const EXCHANGE: [u8; 4] = [7, 0, 0, 0];
 
-fn store(variable: u8) -> [u8; 4] {
+pub(crate) fn store(variable: u8) -> [u8; 4] {
     [5, 0, variable, 1]
 }
 
@@ -49,12 +49,12 @@ fn job(memory: Memory, variables: u8, programs: &[Program]) -> Vec<u8> {
     file(memory, &initial, programs, 0, &ALWAYS)
 }
 
-fn flush(thread: u8, variable: u8) -> u8 {
+pub(crate) fn flush(thread: u8, variable: u8) -> u8 {
     4 + 8 * thread + variable
 }
 
 /// These steps, which are all taken, and one more, which is taken or has this reason.
-fn then(job: &[u8], before: &[u8], number: u8, reason: u8) -> Known {
+pub(crate) fn then(job: &[u8], before: &[u8], number: u8, reason: u8) -> Known {
     let schedule = [before, &[number]].concat();
     let line = match reason {
         TAKEN => REACHES.to_string(),
@@ -64,7 +64,7 @@ fn then(job: &[u8], before: &[u8], number: u8, reason: u8) -> Known {
 }
 
 /// The same steps, and each of these numbers behind them.
-fn then_each(job: &[u8], before: &[u8], answers: &[(u8, u8)]) -> Vec<Known> {
+pub(crate) fn then_each(job: &[u8], before: &[u8], answers: &[(u8, u8)]) -> Vec<Known> {
     let cases = answers.iter();
     cases
         .map(|&(number, reason)| then(job, before, number, reason))
@@ -72,7 +72,7 @@ fn then_each(job: &[u8], before: &[u8], answers: &[(u8, u8)]) -> Vec<Known> {
 }
 
 /// A digit is a reason, a dot a step that is taken.
-fn reasons(signs: &str) -> Vec<u8> {
+pub(crate) fn reasons(signs: &str) -> Vec<u8> {
     let reason = |sign| match sign {
         '.' => TAKEN,
         '1'..='6' => sign as u8 - b'0',
@@ -330,7 +330,7 @@ fn behind_other_stores() -> Vec<Known> {
 }
 
 /// One number before the first step of a schedule, after the first, and so on to its end.
-fn along(job: &[u8], schedule: &[u8], number: u8, signs: &str) -> Vec<Known> {
+pub(crate) fn along(job: &[u8], schedule: &[u8], number: u8, signs: &str) -> Vec<Known> {
     let reasons = reasons(signs);
     assert_eq!(reasons.len(), schedule.len() + 1, "{signs}");
     let cases = reasons.into_iter().enumerate();
@@ -436,12 +436,22 @@ pub fn every_number() -> Vec<Known> {
 
 fn each_number_in(situation: Situation) -> Vec<Known> {
     let job = job(situation.memory, situation.variables, &situation.programs);
-    let steps = [&[situation.execute], &situation.flush[..]].concat();
+    each_number_behind(&job, &situation.before, situation.execute, situation.flush)
+}
+
+/// What each number says behind these steps: one sign a thread for executing, and one line a thread with a sign a variable for flushing.
+pub(crate) fn each_number_behind(
+    job: &[u8],
+    before: &[u8],
+    execute: &str,
+    flush: [&str; 4],
+) -> Vec<Known> {
+    let steps = [&[execute], &flush[..]].concat();
     let steps = reasons(&steps.concat());
-    assert_eq!(steps.len(), 36, "{:?}", situation.flush);
+    assert_eq!(steps.len(), 36, "{flush:?}");
     let above = vec![NO_SUCH_STEP; 220];
     let answers: Vec<(u8, u8)> = (0..=255).zip([steps, above].concat()).collect();
-    then_each(&job, &situation.before, &answers)
+    then_each(job, before, &answers)
 }
 
 /// Thread 0 has ended and thread 1 waits for room, each with one store behind another; thread 2 waits for an empty buffer, thread 3 runs.

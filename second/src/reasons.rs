@@ -12,8 +12,11 @@ pub const STUCK: [[&str; 6]; 3] = [
     ["PSO, 1", "PSO, 2", "PSO, 3", "PSO, 4", "PSO, 5", "PSO, 6"],
 ];
 
-/// Those that cannot come up: SC has no buffers, and under PSO a flush takes the oldest store to its variable.
-pub const NEVER: [&str; 4] = [STUCK[0][2], STUCK[0][3], STUCK[0][5], STUCK[2][5]];
+/// Those that cannot come up: SC has no buffers.
+pub const NEVER: [&str; 3] = [STUCK[0][2], STUCK[0][3], STUCK[0][5]];
+
+/// Under PSO only a WFENCE puts a store behind others to other variables.
+pub const ONLY_IN_VERSION_TWO: &str = STUCK[2][5];
 
 pub const ABOVE_35: &str = "a number above 35";
 pub const ABSENT_THREAD: &str = "an absent thread to execute";
@@ -21,7 +24,7 @@ pub const ABSENT_THREAD_FLUSH: &str = "an absent thread to flush";
 pub const ABSENT_VARIABLE: &str = "an absent variable to flush";
 pub const BOTH_ABSENT: &str = "an absent variable of an absent thread";
 pub const ENDED_AT_FULL: &str = "ended with a full buffer";
-pub const BARRIER_AT_FULL: &str = "FENCE or XCHG at a full buffer";
+pub const BARRIER_AT_FULL: &str = "FENCE, XCHG or CMPX at a full buffer";
 pub const FLUSH_OF_ENDED: &str = "an ended thread with nothing to flush";
 pub const FLUSH_OF_WAITING: &str = "a waiting thread with nothing to flush";
 pub const FLUSH_BESIDE: &str = "nothing to flush beside other stores";

@@ -8,10 +8,12 @@ use crate::listed::{
     MEMORIES, P12_REFUSAL, PSO, ROOM_FOR_JOB, SC, TSO,
 };
 use crate::long_threads::{ends_high, of_job, HIGH_END, MOST_BEFORE, OF_JOBS};
-use crate::random::{damaged_job, found_schedule, replay_schedule, sound_job, Random};
+use crate::random::{damaged_job_of, found_schedule, replay_schedule, sound_job_of, Random};
 use crate::reason_cases;
 use crate::reasons::{of_replay, of_replays};
 use crate::replay::replay;
+use crate::version_two_jobs::{refused_about_versions, refused_in_both};
+use crate::{version_two, version_two_replays};
 use std::slice;
 
 /// A job, and the schedule that is replayed on it.
@@ -28,7 +30,7 @@ pub type Known = (Case, String);
 pub const MOST_STEPS: usize = 70_000;
 
 pub(crate) const REACHES: &str = "REACHES";
-const FALLS_SHORT: &str = "FALLS SHORT";
+pub(crate) const FALLS_SHORT: &str = "FALLS SHORT";
 
 // The numbers that request 5 gives to the reasons, written down apart from the machine's.
 pub(crate) const NO_SUCH_STEP: u8 = 1;
@@ -68,14 +70,35 @@ pub(crate) fn known(job: &[u8], schedule: &[u8], line: &str) -> Known {
     (case(job, schedule), line.to_string())
 }
 
+/// Those of version 2 come behind those of version 1, which stay where they were.
 pub fn all() -> Vec<Case> {
-    let said = all_known().into_iter().map(|(case, _)| case).collect();
-    let random = [random_cases(), reason_cases::random_cases()].concat();
-    [said, changed_found(), random].concat()
+    let without_line = |known: Vec<Known>| known.into_iter().map(|(case, _)| case).collect();
+    [
+        without_line(known_of_version_one()),
+        changed_found(),
+        random_cases(),
+        reason_cases::random_cases(),
+        without_line(known_of_version_two()),
+        version_two_replays::random_cases(),
+    ]
+    .concat()
 }
 
 /// The cases whose lines a person can say.
 pub fn all_known() -> Vec<Known> {
+    [known_of_version_one(), known_of_version_two()].concat()
+}
+
+fn known_of_version_two() -> Vec<Known> {
+    [
+        version_two_replays::all_known(),
+        with_any_schedule(refused_about_versions()),
+        with_any_schedule(refused_in_both()),
+    ]
+    .concat()
+}
+
+fn known_of_version_one() -> Vec<Known> {
     let groups = [
         listed(),
         goal_at_the_start(),
@@ -100,6 +123,11 @@ pub fn all_known() -> Vec<Known> {
     groups.concat()
 }
 
+/// What each operation does and each step, in few words.
+pub(crate) fn basics() -> Vec<Known> {
+    [listed(), instructions(), waiting(), flushes(), ended()].concat()
+}
+
 /// How many cases have long threads, by class.
 pub fn counts_of_long_threads() -> Counts {
     let classes = [&OF_JOBS[..], &[HIGH_END]].concat();
@@ -116,6 +144,17 @@ pub fn counts_of_reasons() -> Counts {
     let met = |case: &Case| of_replay(&case.job, &case.schedule);
     let met: Vec<_> = all().iter().map(met).collect();
     Counts::new(&of_replays(), &met)
+}
+
+/// How many cases are of version 2, and what they meet, by class.
+pub fn counts_of_version_two() -> Counts {
+    let classes = [&version_two::of_jobs()[..], &version_two::OF_REPLAYS].concat();
+    let met = |case: &Case| {
+        let of_replay = version_two::of_replay(&case.job, &case.schedule);
+        [version_two::of_job(&case.job), of_replay].concat()
+    };
+    let met: Vec<_> = all().iter().map(met).collect();
+    Counts::new(&classes, &met)
 }
 
 /// The schedules that the bench list names, P11 on each of its jobs.
@@ -692,8 +731,8 @@ const SEED: u64 = 2;
 fn random_cases() -> Vec<Case> {
     let mut random = Random::new(SEED);
     let mut jobs = vec![at_the_limit(); 10];
-    jobs.extend((0..RANDOM_JOBS).map(|_| sound_job(&mut random)));
-    jobs.extend((0..DAMAGED_JOBS).map(|_| damaged_job(&mut random)));
+    jobs.extend((0..RANDOM_JOBS).map(|_| sound_job_of(&mut random, 1)));
+    jobs.extend((0..DAMAGED_JOBS).map(|_| damaged_job_of(&mut random, 1)));
     jobs.retain(|job| job.len() <= ROOM_FOR_JOB);
     let cases = jobs.into_iter().map(|job| Case {
         schedule: replay_schedule(&mut random, &job),

@@ -3,14 +3,20 @@
 use crate::classes::Counts;
 use crate::job::MOST_INSTRUCTIONS;
 use crate::listed::{
-    accepted_list, at_the_limit, bench_list, blank_goals, classics, fewest_and_most_clauses, file,
-    p12, refused_jobs, too_long_threads, Memory, Program, Refused, AT_THE_START, COUNT,
-    FURTHEST_PLACE, MEMORIES, P1, TSO,
+    accepted_list, at_the_limit, bench_list, blank_goals, classics, every_memory,
+    fewest_and_most_clauses, file, in_version, p12, refused_jobs, too_long_threads, Memory,
+    Program, Refused, AT_THE_START, COUNT, FURTHEST_PLACE, MEMORIES, P1, PSO, TSO,
 };
 use crate::long_threads::{ends_high, of_job, HIGH_GOAL, MOST_BEFORE, OF_JOBS};
 use crate::machine::SLOT_BYTES;
-use crate::random::{buffer_sizes, sound_job, Random, Sizes};
+use crate::random::{buffer_sizes, sound_job_of, Random, Sizes};
 use crate::search::search;
+use crate::version_two;
+use crate::version_two_jobs::{
+    classics_of_two, file_of_two, message_passing_by_wfence, refused_about_versions,
+    refused_in_both, WFENCE,
+};
+use crate::version_two_replays::grouped_job;
 
 /// A job, and how much of each memory is lent for it.
 #[derive(Clone)]
@@ -111,6 +117,21 @@ pub fn all() -> Vec<Case> {
         to_each_long_end(),
         about_the_longest_way(),
         beside_a_long_thread(),
+        of_version_two(),
+    ];
+    groups.concat()
+}
+
+/// These come behind the others, which stay where they were.
+fn of_version_two() -> Vec<Case> {
+    let groups = [
+        with_and_without_room(refused_about_versions()),
+        with_and_without_room(refused_in_both()),
+        as_in_version_one(),
+        about_the_count_of_two(),
+        every_room_of_two(),
+        full_of_groups(),
+        random_jobs_of_two(),
     ];
     groups.concat()
 }
@@ -131,6 +152,28 @@ pub fn counts_of_long_threads() -> Counts {
             vec![HIGH_GOAL; usize::from(to_high_goal)],
         ]
         .concat()
+    };
+    let met: Vec<_> = all().iter().map(met).collect();
+    Counts::new(&classes, &met)
+}
+
+/// How many cases are of version 2, and what their slots and answers show, by class.
+pub fn counts_of_version_two() -> Counts {
+    let classes = [&version_two::of_jobs()[..], &version_two::OF_SEARCHES].concat();
+    let met = |case: &Case| {
+        let Searched {
+            answer,
+            table,
+            schedule,
+            ..
+        } = searched(case);
+        let left = version_two::Searched {
+            answer,
+            table: &table,
+            schedule: &schedule,
+        };
+        let of_search = version_two::of_search(&case.job, left);
+        [version_two::of_job(&case.job), of_search].concat()
     };
     let met: Vec<_> = all().iter().map(met).collect();
     Counts::new(&classes, &met)
@@ -187,6 +230,14 @@ fn every_room() -> Vec<Case> {
         }
     }
     cases
+}
+
+/// One slot less than is needed, as many and one more, the smallest buffer being another each time.
+fn about_what_is_needed(job: &[u8]) -> Vec<Case> {
+    let needed = count(job);
+    let rooms = (needed - 1..=needed + 1).enumerate();
+    let cases = rooms.map(|(turn, slots)| lent(job, slots, turn));
+    cases.filter(|case| fits(case.sizes)).collect()
 }
 
 /// One slot less than is needed, as many and one more, each buffer being the smallest.
@@ -336,16 +387,83 @@ fn beside_a_long_thread() -> Vec<Case> {
         for (long, short) in &pairs {
             let goal = both_ended(short);
             let job = file(memory, &[0, 0], &[long.clone(), short.clone()], 0, &goal);
-            let needed = count(&job);
-            let rooms = (needed - 1..=needed + 1).enumerate();
-            cases.extend(rooms.map(|(turn, slots)| lent(&job, slots, turn)));
+            cases.extend(about_what_is_needed(&job));
         }
         // As many threads as there are, which no room here holds.
         let ends = [0, 1, 2, 3].map(|thread| [1, thread, 0, FURTHEST_PLACE]);
         let job = file(memory, &[0], &vec![ending(&[]); 4], 1, &ends);
         cases.push(Case { sizes: ROOM, job });
     }
-    cases.retain(|case| fits(case.sizes));
+    cases
+}
+
+/// With neither CMPX nor WFENCE the version makes no difference.
+fn as_in_version_one() -> Vec<Case> {
+    let mut jobs = bench_list();
+    jobs.extend(MEMORIES.into_iter().flat_map(classics));
+    let in_version_two = jobs.iter().map(|job| in_version(job, 2));
+    let cases = in_version_two.map(|job| Case { sizes: ROOM, job });
+    cases.collect()
+}
+
+fn about_the_count_of_two() -> Vec<Case> {
+    let jobs = every_memory().into_iter().flat_map(classics_of_two);
+    jobs.flat_map(|job| about_what_is_needed(&job)).collect()
+}
+
+/// Jobs whose levels have slots with groups and with a WFENCE, in every room up to one more than is needed.
+fn every_room_of_two() -> Vec<Case> {
+    let [_, _, _, _, three_groups, ..] = classics_of_two([PSO, 3]);
+    let mut cases = Vec::new();
+    for job in [message_passing_by_wfence([PSO, 2]), three_groups] {
+        let rooms = 0..=count(&job) + 1;
+        cases.extend(rooms.map(|slots| lent(&job, slots, slots)));
+    }
+    cases
+}
+
+/// As many stores as the buffer holds, each in a group of its own or two in one, some behind two WFENCEs, to all variables and to two; a store more has to wait.
+fn full_of_groups() -> Vec<Case> {
+    let mut cases = Vec::new();
+    for memory in every_memory() {
+        for variables in [2, 8] {
+            for in_a_group in [1, 2] {
+                let mut program = Program::new();
+                for k in 0..=memory[1].max(1) {
+                    program.push([5, 0, k % variables, k + 1]);
+                    if k % in_a_group == 0 {
+                        let in_a_row = if k % 4 == 0 { 2 } else { 1 };
+                        program.extend(vec![WFENCE; in_a_row]);
+                    }
+                }
+                let initial = vec![0; usize::from(variables)];
+                let job = file_of_two(memory, &initial, &[program], 0, &[NEVER]);
+                cases.extend(about_what_is_needed(&job));
+            }
+        }
+    }
+    cases
+}
+
+/// No thread here uses that register.
+const NEVER: [u8; 4] = [2, 0, 3, 1];
+
+const SOUND_JOBS_OF_TWO: usize = 60;
+const GROUPED_JOBS: usize = 60;
+const SEED_OF_TWO: u64 = 6;
+
+fn random_jobs_of_two() -> Vec<Case> {
+    let mut random = Random::new(SEED_OF_TWO);
+    let mut cases = Vec::new();
+    for turn in 0..SOUND_JOBS_OF_TWO + GROUPED_JOBS {
+        let job = if turn < SOUND_JOBS_OF_TWO {
+            sound_job_of(&mut random, 2)
+        } else {
+            grouped_job(&mut random, 2, 6, NEVER)
+        };
+        let sizes = within_the_room(buffer_sizes(&mut random, &job));
+        cases.push(Case { sizes, job });
+    }
     cases
 }
 
@@ -355,7 +473,7 @@ const SEED: u64 = 1;
 fn random_jobs() -> Vec<Case> {
     let mut random = Random::new(SEED);
     let cases = (0..RANDOM_JOBS).map(|_| {
-        let job = sound_job(&mut random);
+        let job = sound_job_of(&mut random, 1);
         let sizes = buffer_sizes(&mut random, &job);
         Case {
             sizes: within_the_room(sizes),

@@ -175,8 +175,9 @@ fn p12_a_blank_goal_is_refused_with_either_flag() {
 #[test]
 fn listed_refusals() {
     assert_eq!(bench_lines(&[]), "REFUSED 1 0\nHOLD\n");
-    assert_eq!(bench_lines(&[0, 1, 2]), "REFUSED 2 2\nHOLD\n");
+    assert_eq!(bench_lines(&[0, 1, 0]), "REFUSED 2 2\nHOLD\n");
     assert_eq!(bench_lines(&[0, 1, 1]), "REFUSED 6 3\nHOLD\n");
+    assert_eq!(bench_lines(&[0, 1, 2]), "REFUSED 6 3\nHOLD\n");
     let mut bytes = p1();
     bytes[10] = 0x0A;
     assert_eq!(bench_lines(&bytes), "REFUSED 4 10\nHOLD\n");

@@ -140,7 +140,9 @@ fn walk_ends(program: &[Instruction], from: usize, barriers_between: bool) -> Ve
                 && !barriers_between
                 && matches!(
                     program[place],
-                    Instruction::Fence | Instruction::Exchange { .. }
+                    Instruction::Fence
+                        | Instruction::Exchange { .. }
+                        | Instruction::CompareExchange { .. }
                 );
             if !inner_barrier {
                 match program[place] {
@@ -152,7 +154,9 @@ fn walk_ends(program: &[Instruction], from: usize, barriers_between: bool) -> Ve
                     | Instruction::StoreRegister { .. }
                     | Instruction::StoreConstant { .. }
                     | Instruction::Fence
-                    | Instruction::Exchange { .. } => next.push(place + 1),
+                    | Instruction::Exchange { .. }
+                    | Instruction::CompareExchange { .. }
+                    | Instruction::StoreFence => next.push(place + 1),
                 }
             }
         }
@@ -180,6 +184,8 @@ fn expected_fences(job: &Job) -> [u64; 4] {
                 | Instruction::Load { .. }
                 | Instruction::Fence
                 | Instruction::Exchange { .. }
+                | Instruction::CompareExchange { .. }
+                | Instruction::StoreFence
                 | Instruction::JumpIfEqual { .. }
                 | Instruction::Jump { .. } => Vec::new(),
             };

@@ -11,7 +11,7 @@ use second::random::{
     buffer_sizes, case, damaged_job, random_bytes, replay_schedule, sound_job, stuck_schedule,
     Random,
 };
-use second::{dead_code, decode, reason_cases, reasons, replay};
+use second::{dead_code, decode, reason_cases, reasons, replay, version_two, version_two_replays};
 use std::collections::BTreeSet;
 
 #[test]
@@ -185,13 +185,21 @@ fn schedules_give_all_replay_answers() {
     }
     assert!(kinds[1..].iter().all(|&count| count > 200), "{kinds:?}");
     assert!([36, 63, 64, 255].iter().all(|step| steps.contains(step)));
-    assert_each_reason(&stuck, 5);
+    assert_each_reason(&stuck, 5, &reasons::NEVER);
 }
+
+type MakeJob = fn(&mut Random) -> Vec<u8>;
 
 #[test]
 fn stuck_schedules_are_stuck_at_their_last_step_by_every_reason() {
     let mut random = Random::new(14);
-    for make in [sound_job, reason_cases::random_job] {
+    let in_version_one = [&reasons::NEVER[..], &[reasons::ONLY_IN_VERSION_TWO]].concat();
+    let makers: [(MakeJob, &[&str]); 3] = [
+        (sound_job, &reasons::NEVER),
+        (reason_cases::random_job, &in_version_one),
+        (version_two_replays::random_job, &reasons::NEVER),
+    ];
+    for (make, never) in makers {
         let mut stuck = Vec::new();
         for _ in 0..2_000 {
             let bytes = make(&mut random);
@@ -200,16 +208,72 @@ fn stuck_schedules_are_stuck_at_their_last_step_by_every_reason() {
             assert_eq!(replay(&bytes, &schedule)[..2], [3, last]);
             stuck.push(reasons::of_replay(&bytes, &schedule));
         }
-        assert_each_reason(&stuck, 30);
+        assert_each_reason(&stuck, 20, never);
     }
     assert_eq!(stuck_schedule(&mut random, &[]), []);
 }
 
 /// `stuck` holds the classes of each replay.
-fn assert_each_reason(stuck: &[Vec<&'static str>], least: usize) {
+fn assert_each_reason(stuck: &[Vec<&'static str>], least: usize, never: &[&str]) {
     for (class, count) in Counts::new(&reasons::STUCK.concat(), stuck).of_classes {
-        let comes_up = !reasons::NEVER.contains(&class);
+        let comes_up = !never.contains(&class);
         assert!(!comes_up || count >= least, "only {count} of {class}");
         assert!(comes_up || count == 0, "{count} of {class}");
+    }
+}
+
+#[test]
+fn sound_jobs_are_of_both_versions_and_have_both_operations_under_every_model() {
+    let mut random = Random::new(15);
+    let met = |job: &Vec<u8>| [version_two::of_job(job), version_two::of_fence_check(job)].concat();
+    let sound: Vec<Vec<u8>> = (0..4_000).map(|_| sound_job(&mut random)).collect();
+    let of_one = sound.iter().filter(|job| job[2] == 1).count();
+    assert!((1_500..2_500).contains(&of_one), "{of_one}");
+    let met: Vec<_> = sound.iter().map(met).collect();
+    let classes = [&version_two::of_jobs()[..], &version_two::OF_FENCE_CHECKS].concat();
+    for (class, count) in Counts::new(&classes, &met).of_classes {
+        let refused = class.starts_with("refused");
+        assert!(refused || count >= 15, "only {count} of {class}");
+        assert!(!refused || count == 0, "{count} of {class}");
+    }
+}
+
+#[test]
+fn damaged_jobs_are_refused_for_what_version_2_has_more() {
+    let mut random = Random::new(16);
+    let jobs = (0..4_000).map(|_| damaged_job(&mut random));
+    let met: Vec<_> = jobs.map(|job| version_two::of_job(&job)).collect();
+    let mut counts = Counts::new(&version_two::of_jobs(), &met).of_classes;
+    // Few of them are accepted, so capacities come up now and then.
+    counts.retain(|(class, _)| !version_two::WITH_MEMORY.contains(class));
+    for (class, count) in counts {
+        assert!(count >= 15, "only {count} of {class}");
+    }
+}
+
+#[test]
+fn replays_and_searches_of_sound_jobs_meet_what_version_2_has_more() {
+    let mut random = Random::new(17);
+    let (mut replays, mut searches) = (Vec::new(), Vec::new());
+    for _ in 0..3_000 {
+        let bytes = sound_job(&mut random);
+        let schedule = replay_schedule(&mut random, &bytes);
+        replays.push(version_two::of_replay(&bytes, &schedule));
+        let run = run(&bytes, 640);
+        let left = version_two::Searched {
+            answer: run.answer,
+            table: &run.table,
+            schedule: &run.schedule,
+        };
+        searches.push(version_two::of_search(&bytes, left));
+    }
+    for (class, count) in Counts::new(&version_two::OF_REPLAYS, &replays).of_classes {
+        // These take a walk that fills a buffer with groups and stops just there.
+        let is_seldom = [version_two::STUCK_BESIDE, version_two::STUCK_FULL].contains(&class);
+        let least = if is_seldom { 1 } else { 5 };
+        assert!(count >= least, "only {count} of {class}");
+    }
+    for (class, count) in Counts::new(&version_two::OF_SEARCHES, &searches).of_classes {
+        assert!(count >= 5, "only {count} of {class}");
     }
 }

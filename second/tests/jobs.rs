@@ -3,8 +3,9 @@
 use second::fences::{open_pairs, open_run_or_not};
 use second::job::{decode, Clause, Instruction, Job, Model};
 use second::job_folder::check;
-use second::listed::{bench_list, file, with_byte, Program, P1, SC};
+use second::listed::{bench_list, every_memory, file, in_version, with_byte, Program, P1, PSO, SC};
 use second::machine::SLOT_BYTES;
+use second::version_two_jobs::WFENCE;
 use second::{bench_lines, fences, search};
 use std::collections::BTreeMap;
 use std::fs;
@@ -60,9 +61,11 @@ fn answer(job: &[u8]) -> u64 {
 
 /// A job file taken apart, so that one part can be exchanged.
 struct Parts {
+    version: u8,
     memory: [u8; 2],
     initial: Vec<u8>,
     programs: Vec<Program>,
+    flag: u8,
     clauses: Vec<[u8; 4]>,
     job: Job,
 }
@@ -71,7 +74,6 @@ impl Parts {
     fn of(name: &str) -> Parts {
         let bytes = stored(name);
         let job = decode(&bytes).unwrap();
-        assert!(job.goal.buffers_empty, "{name}");
         let mut at = 7 + job.initial.len();
         let mut programs = Vec::new();
         for program in &job.programs {
@@ -80,16 +82,25 @@ impl Parts {
             at = end;
         }
         Parts {
+            version: bytes[2],
             memory: [bytes[3], bytes[4]],
             initial: job.initial.clone(),
             programs,
+            flag: bytes[at],
             clauses: quads(&bytes[at + 2..]),
             job,
         }
     }
 
     fn file(&self) -> Vec<u8> {
-        file(self.memory, &self.initial, &self.programs, 1, &self.clauses)
+        let job = file(
+            self.memory,
+            &self.initial,
+            &self.programs,
+            self.flag,
+            &self.clauses,
+        );
+        in_version(&job, self.version)
     }
 
     /// The place of a thread's critical section, as the goal names it.
@@ -135,8 +146,11 @@ fn the_bench_list_is_there() {
         .collect();
     assert_eq!(listed, bench_list());
     assert_eq!(stored("refused-empty"), []);
-    assert_eq!(stored("refused-version"), [0, 1, 2]);
+    // A byte that is no version in later requests either.
+    let version = stored("refused-version");
+    assert!(matches!(version[..], [0, 1, 0 | 4..=255]), "{version:?}");
     assert_eq!(stored("refused-ends-early"), [0, 1, 1]);
+    assert_eq!(stored("refused-ends-early-two"), [0, 1, 2]);
     assert_eq!(stored("refused-operation"), with_byte(&P1, 10, 0x0A));
 }
 
@@ -229,6 +243,7 @@ fn each_thread_gets_in_alone_and_beside_the_other() {
     for name in names.chain(others.map(str::to_string)) {
         for thread in 0..2 {
             let mut parts = Parts::of(&name);
+            assert_eq!(parts.flag, 1, "{name}");
             parts.clauses = vec![parts.clauses[thread]];
             assert_eq!(answer(&parts.file()), REACHABLE, "{name} {thread}");
             // Alone: the other thread is empty and has not announced itself.
@@ -478,4 +493,81 @@ fn a_fence_behind_the_revived_store_mends_it() {
     parts.clauses[0][3] += 1;
     assert_eq!(fences(&parts.file()), [1, 0, 0, 0]);
     assert_eq!(answer(&parts.file()), UNREACHABLE);
+}
+
+/// The jobs of request 7: plain, and with a WFENCE before the last store.
+const MESSAGE: [&str; 2] = ["message-passing-plain-pso", "message-passing-wfence-pso"];
+const LOCK: [&str; 2] = ["cmpx-lock-plain-pso", "cmpx-lock-wfence-pso"];
+
+/// The bench has 640 slots now, and 400 when slots grow.
+const FEWEST_SLOTS: u64 = 400;
+
+#[test]
+fn a_wfence_before_the_last_store_is_all_that_differs() {
+    // The second thread of the message only loads.
+    for (names, with_wfence) in [(MESSAGE, 0..1), (LOCK, 0..2)] {
+        let [mut plain, wfence] = names.map(Parts::of);
+        for program in &mut plain.programs[with_wfence] {
+            program.insert(program.len() - 1, WFENCE);
+        }
+        assert_eq!(plain.file(), stored(names[1]));
+        assert_eq!((wfence.version, wfence.memory), (2, [PSO, 2]));
+    }
+    let p6 = stored("p06-message-passing-pso");
+    assert_eq!(stored(MESSAGE[0]), in_version(&p6, 2));
+}
+
+#[test]
+fn the_wfence_decides_under_pso_from_two_stores_on_and_nowhere_else() {
+    for names in [MESSAGE, LOCK] {
+        for memory in every_memory() {
+            let answers = names.map(|name| {
+                let parts = Parts {
+                    memory,
+                    ..Parts::of(name)
+                };
+                answer(&parts.file())
+            });
+            let plain = match memory {
+                [PSO, 2..=8] => REACHABLE,
+                _ => UNREACHABLE,
+            };
+            assert_eq!(answers, [plain, UNREACHABLE], "{names:?} {memory:?}");
+        }
+    }
+}
+
+#[test]
+fn each_gear_is_put_in_mesh_alone_and_beside_the_other() {
+    for name in LOCK {
+        for thread in 0..2 {
+            let mut parts = Parts::of(name);
+            parts.clauses = vec![parts.clauses[thread]];
+            assert_eq!(answer(&parts.file()), REACHABLE, "{name} {thread}");
+            parts.programs[1 - thread].clear();
+            assert_eq!(answer(&parts.file()), REACHABLE, "{name} {thread} alone");
+        }
+    }
+}
+
+#[test]
+fn without_its_test_behind_the_cmpx_the_lock_fails_under_sc() {
+    for name in LOCK {
+        for thread in 0..2 {
+            let mut parts = Parts::of(name);
+            parts.memory = SC;
+            assert_eq!(parts.programs[thread][2], [8, 0, 0, 1]);
+            parts.programs[thread][2] = NOTHING;
+            assert_eq!(answer(&parts.file()), REACHABLE, "{name} {thread}");
+        }
+    }
+}
+
+#[test]
+fn the_jobs_of_version_2_fit_the_bench_when_slots_grow() {
+    for name in [MESSAGE, LOCK].concat() {
+        let output = bench_lines(&stored(name));
+        let states = output.lines().next().unwrap().rsplit(' ').next().unwrap();
+        assert!(states.parse::<u64>().unwrap() <= FEWEST_SLOTS, "{name}");
+    }
 }

@@ -1,12 +1,13 @@
 //! The reasons: the machine gives them by the rules, and the cases tell wrong ones from right ones.
 
+use second::fences::is_barrier;
 use second::job::{Instruction, Job, Model};
 use second::listed::{file, AT_THE_START, TSO};
 use second::machine::{enabled, reason, step, successors, Reason, State, Step, REASONS};
 use second::random::{sound_job, stuck_schedule, Random};
 use second::replay::{follow, follow_until_stuck, Stuck};
 use second::replay_cases::{Case, Known};
-use second::{decode, reason_cases, replay, replay_cases};
+use second::{decode, reason_cases, replay, replay_cases, version_two_replays};
 use std::collections::{BTreeMap, BTreeSet};
 
 // ---- the machine ----
@@ -67,10 +68,11 @@ fn replay_gives_the_reason_as_its_third_word() {
 /// Jobs of all kinds, and some states of each: the nearest to the start, and where a busy walk ends.
 fn many_states() -> Vec<(Job, Vec<State>)> {
     let mut random = Random::new(51);
-    let jobs: Vec<Vec<u8>> = (0..800)
-        .map(|turn| match turn % 2 {
+    let jobs: Vec<Vec<u8>> = (0..900)
+        .map(|turn| match turn % 3 {
             0 => sound_job(&mut random),
-            _ => reason_cases::random_job(&mut random),
+            1 => reason_cases::random_job(&mut random),
+            _ => version_two_replays::random_job(&mut random),
         })
         .collect();
     let with_states = jobs.into_iter().map(|bytes| {
@@ -97,13 +99,13 @@ fn many_states() -> Vec<(Job, Vec<State>)> {
 /// The reason read off the bytes of the slot, nested as a person would ask.
 fn reason_from_slot(job: &Job, slot: &[u8], number: u8) -> Option<u8> {
     let [threads, variables] = [job.programs.len(), job.initial.len()];
+    // Variable and group of each store; the count has 128 more while a WFENCE stands after the newest.
     let buffer = |thread: usize| {
         let first = 28 + 17 * thread;
-        let count = usize::from(slot[first]);
+        let count = usize::from(slot[first] % 128);
         let pairs = slot[first + 1..first + 17].chunks(2).take(count);
-        pairs
-            .map(|pair| usize::from(pair[0]))
-            .collect::<Vec<usize>>()
+        let stores = pairs.map(|pair| (usize::from(pair[0] % 16), pair[0] / 16));
+        stores.collect::<Vec<_>>()
     };
     if number < 4 {
         let thread = usize::from(number);
@@ -123,10 +125,13 @@ fn reason_from_slot(job: &Job, slot: &[u8], number: u8) -> Option<u8> {
                 };
                 waits.then_some(3)
             }
-            Instruction::Fence | Instruction::Exchange { .. } => (count > 0).then_some(4),
+            Instruction::Fence
+            | Instruction::Exchange { .. }
+            | Instruction::CompareExchange { .. } => (count > 0).then_some(4),
             Instruction::Set { .. }
             | Instruction::Add { .. }
             | Instruction::Load { .. }
+            | Instruction::StoreFence
             | Instruction::JumpIfEqual { .. }
             | Instruction::Jump { .. } => None,
         }
@@ -136,12 +141,15 @@ fn reason_from_slot(job: &Job, slot: &[u8], number: u8) -> Option<u8> {
             return Some(1);
         }
         let buffer = buffer(thread);
-        if !buffer.contains(&variable) {
+        let is_behind = match job.model {
+            Model::Sc => false,
+            Model::Tso => buffer.first().map_or(false, |oldest| oldest.0 != variable),
+            Model::Pso => !buffer.contains(&(variable, 0)),
+        };
+        if buffer.iter().all(|store| store.0 != variable) {
             Some(5)
-        } else if job.model == Model::Tso && buffer[0] != variable {
-            Some(6)
         } else {
-            None
+            is_behind.then_some(6)
         }
     } else {
         Some(1)
@@ -243,7 +251,7 @@ fn reasons_come_up_under_these_models_and_apply_together_in_these_pairs() {
     let expected: [Vec<(u8, u8)>; 3] = [
         under(0, &[1, 2, 5]),
         under(1, &[1, 2, 3, 4, 5, 6]),
-        under(2, &[1, 2, 3, 4, 5]),
+        under(2, &[1, 2, 3, 4, 5, 6]),
     ];
     assert_eq!(alone, expected.concat().into_iter().collect());
     // An absent thread has no instruction left and nothing to flush, and nothing is pending to an absent variable.
@@ -272,9 +280,7 @@ fn kinds_of_thread(job: &Job, state: &State, thread: usize) -> Vec<&'static str>
     let own = &state.threads[thread];
     let doing = match job.programs[thread].get(own.place) {
         None => "ended",
-        Some(Instruction::Fence | Instruction::Exchange { .. }) if own.pending() > 0 => {
-            "waits for an empty buffer"
-        }
+        Some(&next) if is_barrier(next) && own.pending() > 0 => "waits for an empty buffer",
         Some(Instruction::StoreRegister { .. } | Instruction::StoreConstant { .. })
             if job.model != Model::Sc && own.pending() == job.capacity =>
         {
@@ -282,7 +288,7 @@ fn kinds_of_thread(job: &Job, state: &State, thread: usize) -> Vec<&'static str>
         }
         Some(_) => "runs",
     };
-    let stores = own.lanes.iter().flatten();
+    let stores = own.buffer.stores();
     let variables: BTreeSet<u8> = stores.map(|store| store.variable).collect();
     let mut kinds = vec![doing];
     match own.pending() {
@@ -638,11 +644,7 @@ fn wrong_about_execution() -> Vec<(&'static str, Wrong)> {
             where_else(
                 |_, job, state, number| {
                     let next = executes(number).and_then(|t| instruction(job, state, t));
-                    let waits = matches!(
-                        next,
-                        Some(Instruction::Fence | Instruction::Exchange { .. })
-                    );
-                    job.model == Model::Sc && waits
+                    job.model == Model::Sc && next.map_or(false, is_barrier)
                 },
                 not_empty,
             ),
@@ -759,8 +761,9 @@ fn wrong_about_flushes() -> Vec<(&'static str, Wrong)> {
             where_else(
                 |given, job, state, number| {
                     let behind = flushes(number).map_or(false, |(t, v)| {
-                        let mut lanes = state.threads.get(t).into_iter().flat_map(|own| &own.lanes);
-                        lanes.position(|lane| !lane.is_empty()) != Some(v)
+                        let own = state.threads.get(t);
+                        let first = own.and_then(|own| own.buffer.stores().next());
+                        first.map_or(false, |store| usize::from(store.variable) != v)
                     });
                     given.is_none() && job.model == Model::Pso && behind
                 },
@@ -773,7 +776,7 @@ fn wrong_about_flushes() -> Vec<(&'static str, Wrong)> {
                 |given, job, state, number| {
                     let behind = flushes(number).map_or(false, |(t, v)| {
                         let own = state.threads.get(t);
-                        let newest = own.and_then(|own| own.lanes.first()?.last());
+                        let newest = own.and_then(|own| own.buffer.stores().last());
                         newest.map_or(false, |store| usize::from(store.variable) != v)
                     });
                     given.is_none() && job.model == Model::Tso && behind

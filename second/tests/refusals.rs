@@ -306,7 +306,7 @@ fn earlier_faults_win_over_a_blank_goal() {
     };
     assert_eq!(with_blank_goal(28, 0), Some((5, 28)));
     assert_eq!(with_blank_goal(1, 28), Some((1, 0)));
-    assert_eq!(with_blank_goal(2, 2), Some((2, 2)));
+    assert_eq!(with_blank_goal(2, 4), Some((2, 2)));
     for header in 3..=6 {
         assert_eq!(with_blank_goal(header, 255), Some((3, header)));
     }

@@ -7,7 +7,9 @@ use second::dead_code::{
 };
 use second::fences::{open_pairs, OpenPair};
 use second::job::{Instruction, Job, Model};
-use second::listed::{blank_goals, refused_jobs, too_long_threads, MEMORIES, ROOM_FOR_JOB};
+use second::listed::{
+    blank_goals, refused_jobs, too_long_threads, Refused, MEMORIES, ROOM_FOR_JOB,
+};
 use second::long_threads::{
     FULL_SIZE, HELD_HIGH, HIGH_CLAUSE, HIGH_END, HIGH_EXCHANGE, HIGH_FENCE, HIGH_GOAL, HIGH_LOAD,
     HIGH_STORE, HIGH_TARGET, LONG_THREAD, ONE_TOO_MANY,
@@ -19,6 +21,7 @@ use second::reasons::{
     ENDED_AT_FULL, FLUSH_BESIDE, FLUSH_OF_ENDED, FLUSH_OF_WAITING, NEVER, OTHER_STATE_BEFORE,
     STUCK,
 };
+use second::version_two_jobs::{refused_about_versions, refused_in_both};
 use second::{decode, fence_cases, job_cases, replay_cases, search_cases};
 use std::collections::{BTreeMap, BTreeSet};
 
@@ -43,7 +46,7 @@ const UNTOUCHED: &str = "SUMS 101856759 3514663550 1007328511\n";
 #[test]
 fn refused_jobs_are_decoded_and_searched_as_a_person_says() {
     let cases = search_cases::all();
-    for (job, [number, offset]) in [refused_jobs(), blank_goals(), too_long_threads()].concat() {
+    for (job, [number, offset]) in all_refused() {
         let line = format!("REFUSED {number} {offset}\n");
         assert_eq!(job_cases::line(&job), line, "{job:?}");
         let rooms: Vec<_> = cases.iter().filter(|case| case.job == job).collect();
@@ -52,6 +55,21 @@ fn refused_jobs_are_decoded_and_searched_as_a_person_says() {
         for case in rooms {
             let lines = search_cases::lines(case);
             assert_eq!(lines, format!("{line}{UNTOUCHED}"), "{job:?}");
+        }
+    }
+}
+
+/// What is refused in either version.
+fn all_refused() -> Vec<Refused> {
+    let of_one = [refused_jobs(), blank_goals(), too_long_threads()].concat();
+    [of_one, refused_about_versions(), refused_in_both()].concat()
+}
+
+#[test]
+fn what_is_refused_about_versions_is_among_the_cases_of_all_four() {
+    for jobs in jobs_of_all_four() {
+        for (refused, _) in [refused_about_versions(), refused_in_both()].concat() {
+            assert!(jobs.contains(&refused), "{refused:?}");
         }
     }
 }
@@ -214,7 +232,7 @@ fn every_reason_is_often_enough_among_the_replay_cases_of_each_model() {
             (pso[2], 70),
             (pso[3], 80),
             (pso[4], 700),
-            (pso[5], 0),
+            (pso[5], 90),
             (ABOVE_35, 5_000),
             (ABSENT_THREAD, 400),
             (ABSENT_THREAD_FLUSH, 300),
@@ -228,6 +246,35 @@ fn every_reason_is_often_enough_among_the_replay_cases_of_each_model() {
             (OTHER_STATE_BEFORE, 30),
         ],
     );
+}
+
+/// As for long threads: every class of the files, and what replays, slots and answers show.
+#[test]
+fn version_2_is_often_enough_among_the_cases_of_all_four() {
+    assert_each_class(job_cases::counts_of_version_two(), 4_400, 4);
+    assert_each_class(search_cases::counts_of_version_two(), 2_300, 13);
+    assert_each_class(replay_cases::counts_of_version_two(), 16_500, 20);
+    assert_each_class(fence_cases::counts_of_version_two(), 10_000, 8);
+}
+
+fn assert_each_class(counts: Counts, cases: usize, least: usize) {
+    assert!(counts.cases >= cases, "{counts:?}");
+    for (class, count) in counts.of_classes {
+        assert!(count >= least, "only {count} of {class}");
+    }
+}
+
+#[test]
+fn version_1_comes_first_in_all_four_and_stays_where_it_was() {
+    // Only the files that begin with the version byte 2 are new in their answers there.
+    for (jobs, first_of_two) in jobs_of_all_four()
+        .into_iter()
+        .zip([2_148, 1_314, 11_925, 7_882])
+    {
+        let accepted = |job: &&Vec<u8>| decode(job).map_or(false, |job| job.version == 2);
+        assert!(jobs[..first_of_two].iter().filter(accepted).count() <= 1);
+        assert!(jobs[first_of_two..].iter().filter(accepted).count() > 300);
+    }
 }
 
 fn assert_counts(counts: Counts, cases: usize, least: &[(&str, usize)]) {
@@ -258,7 +305,7 @@ fn every_high_place_is_a_store_a_load_and_a_fence_that_decides() {
     // Behind a store or a fence at place 63 there is only the end, so neither can decide.
     assert!((32..=62).all(|place| stores.contains(&place)), "{stores:?}");
     assert!((32..=63).all(|place| loads.contains(&place)), "{loads:?}");
-    for barrier in ["FENCE", "XCHG"] {
+    for barrier in ["FENCE", "XCHG", "CMPX"] {
         assert!((32..=62).all(|place| closers.contains(&(barrier, place))));
     }
     assert!(!stores.contains(&63) && !closers.contains(&("FENCE", 63)));
@@ -272,6 +319,7 @@ fn deciding_fences(job: &Job) -> Vec<(&'static str, usize)> {
             let name = match instruction {
                 Instruction::Fence => "FENCE",
                 Instruction::Exchange { .. } => "XCHG",
+                Instruction::CompareExchange { .. } => "CMPX",
                 _ => continue,
             };
             let mut without = job.clone();

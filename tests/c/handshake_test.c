@@ -1,4 +1,4 @@
-/* Calls the library through its C header on the bench list of 01. */
+/* Calls the library through its C header on the bench list of 01, and on jobs of version 2. */
 #include "handshake.h"
 
 #include <stdio.h>
@@ -22,7 +22,7 @@ static int checks = 0;
 static const uint8_t P1[] = {0x00, 0x2B, 0x01, 0x01, 0x01, 0x02, 0x02, 0x00, 0x00, 0x02, 0x05, 0x00, 0x00, 0x01, 0x03,
                              0x00, 0x01, 0x00, 0x02, 0x05, 0x00, 0x01, 0x01, 0x03, 0x00, 0x00, 0x00, 0x00, 0x04, 0x01,
                              0x00, 0x00, 0x02, 0x01, 0x01, 0x00, 0x02, 0x02, 0x00, 0x00, 0x00, 0x02, 0x01, 0x00, 0x00};
-enum { MODEL = 3, CAPACITY = 4, FLAG = 27, K = 28 };
+enum { VERSION = 2, MODEL = 3, CAPACITY = 4, FLAG = 27, K = 28 };
 
 /* P10: TSO, C 1, one thread with x = 1 and x = 2; goal place 0. */
 static const uint8_t P10[] = {0x00, 0x15, 0x01, 0x01, 0x01, 0x01, 0x01, 0x00, 0x02, 0x05, 0x00, 0x00,
@@ -46,6 +46,23 @@ static const uint8_t PARKED[] = {0x00, 0x57, 0x01, 0x00, 0x00, 0x02, 0x02, 0x00,
                                  0x06, 0x05, 0x00, 0x01, 0x01, 0x06, 0x00, 0x00, 0x00, 0x03, 0x00, 0x00, 0x00, 0x08, 0x00, 0x05, 0x01, 0x09,
                                  0x00, 0x04, 0x00, 0x05, 0x00, 0x01, 0x00, 0x01, 0x02, 0x01, 0x00, 0x00, 0x09, 0x01, 0x01, 0x00, 0x04};
 enum { BACK = 52 };
+
+/* Version 2, PSO, C 2, jobs/message-passing-wfence-pso: thread 0 stores to x and y with a WFENCE between, thread 1 loads y and then x; the goal
+ * is that it sees the new y and the old x. With 2 at BETWEEN the WFENCE is an ADD of 0. */
+static const uint8_t PASSING[] = {0x00, 0x2B, 0x02, 0x02, 0x02, 0x02, 0x02, 0x00, 0x00, 0x03, 0x05, 0x00, 0x00, 0x01, 0x0B,
+                                  0x00, 0x00, 0x00, 0x05, 0x00, 0x01, 0x01, 0x02, 0x03, 0x00, 0x01, 0x00, 0x03, 0x01, 0x00,
+                                  0x00, 0x00, 0x03, 0x01, 0x01, 0x00, 0x02, 0x02, 0x01, 0x00, 0x01, 0x02, 0x01, 0x01, 0x00};
+enum { BETWEEN = 14 };
+
+/* Version 2, PSO, C 3, V 3, one thread: x = 1, WFENCE, WFENCE, y = 2, x = 3, WFENCE, CMPX r0 x 5, CMPX r0 x 7; goal place 0. */
+static const uint8_t GROUPS[] = {0x00, 0x2F, 0x02, 0x02, 0x03, 0x01, 0x03, 0x00, 0x00, 0x00, 0x08, 0x05, 0x00, 0x00, 0x01, 0x0B, 0x00,
+                                 0x00, 0x00, 0x0B, 0x00, 0x00, 0x00, 0x05, 0x00, 0x01, 0x02, 0x05, 0x00, 0x00, 0x03, 0x0B, 0x00, 0x00,
+                                 0x00, 0x0A, 0x00, 0x00, 0x05, 0x0A, 0x00, 0x00, 0x07, 0x00, 0x01, 0x01, 0x00, 0x00, 0x00};
+enum { CLAUSE = 45 };
+
+/* Version 2, SC, V 1, one thread: CMPX r0 x 5, CMPX r0 x 7, CMPX r0 x 9; goal x = 9. */
+static const uint8_t COMPARING[] = {0x00, 0x19, 0x02, 0x00, 0x00, 0x01, 0x01, 0x00, 0x03, 0x0A, 0x00, 0x00, 0x05, 0x0A,
+                                    0x00, 0x00, 0x07, 0x0A, 0x00, 0x00, 0x09, 0x00, 0x01, 0x03, 0x00, 0x00, 0x09};
 
 static int answer_is(const uint64_t answer[4], uint64_t a, uint64_t b, uint64_t c, uint64_t d) {
     return answer[0] == a && answer[1] == b && answer[2] == c && answer[3] == d;
@@ -220,17 +237,23 @@ static void replays(void) {
 /* What stands at BARRIER in THREE: 6 FENCE or 7 XCHG. */
 static uint8_t barrier;
 
-/* Whether a replay of THREE under this model and C, by steps in hex, answers a, b, c, 0. */
-static int three(uint8_t model, uint8_t capacity, const char *hex, uint64_t a, uint64_t b, uint64_t c) {
-    uint8_t job[sizeof THREE], steps[16];
+/* Whether a replay by steps in hex answers a, b, c, 0. */
+static int replayed(const uint8_t *job, size_t size, const char *hex, uint64_t a, uint64_t b, uint64_t c) {
+    uint8_t steps[16];
     uint64_t answer[4];
     size_t count = 0;
     char *end;
+    for (; *hex != 0; hex = end) steps[count++] = (uint8_t)strtoul(hex, &end, 16);
+    replay(job, size, steps, count, answer);
+    return answer_is(answer, a, b, c, 0);
+}
+
+/* The same of THREE under this model and C. */
+static int three(uint8_t model, uint8_t capacity, const char *hex, uint64_t a, uint64_t b, uint64_t c) {
+    uint8_t job[sizeof THREE];
     memcpy(job, THREE, sizeof THREE);
     job[MODEL] = model, job[CAPACITY] = capacity, job[BARRIER] = barrier;
-    for (; *hex != 0; hex = end) steps[count++] = (uint8_t)strtoul(hex, &end, 16);
-    replay(job, sizeof job, steps, count, answer);
-    return answer_is(answer, a, b, c, 0);
+    return replayed(job, sizeof job, hex, a, b, c);
 }
 
 /* Each reason under each model where it can come up. Thread t executes by t and flushes its store to v by 4 + 8t + v: thread 0 by 04 and 05,
@@ -397,15 +420,18 @@ static void refused(const uint8_t *job, size_t size, uint64_t number, uint64_t o
 }
 
 static void refusals(void) {
-    static const uint8_t version[] = {0x00, 0x01, 0x02}, cut[] = {0x00, 0x01, 0x01};
-    static const uint8_t longest[1109] = {0x04, 0x53, 0x02}, too_long[1110] = {0x04, 0x54, 0x01};
+    static const uint8_t version[] = {0x00, 0x01, 0x00}, later[] = {0x00, 0x01, 0x04};
+    static const uint8_t cut[] = {0x00, 0x01, 0x01}, cut_two[] = {0x00, 0x01, 0x02};
+    static const uint8_t longest[1109] = {0x04, 0x53, 0x04}, too_long[1110] = {0x04, 0x54, 0x01};
     uint8_t job[sizeof P1];
     refused(P1, 0, 1, 0);
     refused(P1, 2, 1, 0);
     refused(P1, sizeof P1 - 1, 1, 0);
-    refused(version, sizeof version, 2, 2);
+    refused(version, sizeof version, 2, VERSION);
+    refused(later, sizeof later, 2, VERSION);
     refused(cut, sizeof cut, 6, 3);
-    refused(longest, sizeof longest, 2, 2);
+    refused(cut_two, sizeof cut_two, 6, 3);
+    refused(longest, sizeof longest, 2, VERSION);
     refused(too_long, sizeof too_long, 1, 0);
     memcpy(job, P1, sizeof P1);
     job[MODEL] = 3;
@@ -512,9 +538,247 @@ static void long_threads(void) {
     CHECK(answer_is(answer, 1, 0, 0, 0));
 }
 
+/* P1 in other versions; operations 10 and 11, which version 1 refuses and version 2 takes with sound operands; one more, which neither has. */
+static void versions(void) {
+    const uint8_t none[] = {0, 4, 128, 255};
+    /* Bad ones: register 4, variable 2, and a byte of WFENCE that is not 0. */
+    const uint8_t sound[][4] = {{0x0A, 0, 0, 1}, {0x0A, 3, 1, 255}, {0x0B, 0, 0, 0}};
+    const uint8_t bad[][4] = {{0x0A, 4, 0, 1}, {0x0A, 0, 2, 1}, {0x0B, 1, 0, 0}, {0x0B, 0, 1, 0}, {0x0B, 0, 0, 1}, {0x0C, 0, 0, 0}};
+    uint8_t job[sizeof P1];
+    memcpy(job, P1, sizeof P1);
+    for (size_t k = 0; k < sizeof none; k++) {
+        job[VERSION] = none[k];
+        refused(job, sizeof job, 2, VERSION);
+    }
+    for (size_t k = 0; k < sizeof sound / sizeof sound[0]; k++) {
+        memcpy(job + 10, sound[k], 4);
+        job[VERSION] = 1;
+        refused(job, sizeof job, 4, 10);
+        job[VERSION] = 2;
+        CHECK(replayed(job, sizeof job, "00 00 00", 3, 2, 2));
+    }
+    for (size_t k = 0; k < sizeof bad / sizeof bad[0]; k++) {
+        memcpy(job + 10, bad[k], 4);
+        for (uint8_t version = 1; version <= 2; version++) {
+            job[VERSION] = version;
+            refused(job, sizeof job, 4, 10);
+        }
+    }
+}
+
+/* A file that uses neither CMPX nor WFENCE answers in version 2 as it does in version 1, and leaves the same behind. */
+static void same_in_both(const uint8_t *job, size_t size) {
+    static const uint8_t steps[] = {0x00, 0x00, 0x01, 0x04};
+    uint8_t *two = room(size);
+    uint64_t one_answer[4], two_answer[4];
+    memcpy(two, job, size);
+    two[VERSION] = 2;
+    for (size_t slots = 0; slots <= ROOM; slots += 20) {
+        Lent one_lent = lend(slots * SLOT, slots, slots), two_lent = lend(slots * SLOT, slots, slots);
+        search(job, size, &one_lent, one_answer);
+        search(two, size, &two_lent, two_answer);
+        CHECK(memcmp(one_answer, two_answer, sizeof one_answer) == 0);
+        CHECK(memcmp(one_lent.table, two_lent.table, slots * SLOT + 2 * guard) == 0);
+        CHECK(memcmp(one_lent.links, two_lent.links, (slots + 2 * guard) * sizeof(uint32_t)) == 0);
+        CHECK(memcmp(one_lent.schedule, two_lent.schedule, slots + 2 * guard) == 0);
+        give_back(one_lent);
+        give_back(two_lent);
+    }
+    for (size_t count = 0; count <= sizeof steps; count++) {
+        replay(job, size, steps, count, one_answer);
+        replay(two, size, steps, count, two_answer);
+        CHECK(memcmp(one_answer, two_answer, sizeof one_answer) == 0);
+    }
+    fences(job, size, one_answer);
+    fences(two, size, two_answer);
+    CHECK(memcmp(one_answer, two_answer, sizeof one_answer) == 0);
+    free(two);
+}
+
+static void both_versions(void) {
+    same_in_both(P1, sizeof P1);
+    same_in_both(P9, sizeof P9);
+    same_in_both(P10, sizeof P10);
+    same_in_both(THREE, sizeof THREE);
+}
+
+/* Message passing under PSO: with the WFENCE the goal is never reached, and without it by y's flush before x's. */
+static void store_store_fence(void) {
+    static const uint8_t steps[] = {0x00, 0x00, 0x00, 0x05, 0x01, 0x01};
+    /* What is not 0 in slots 3, 7, 9 and 13, where thread 0 has run alone: behind the WFENCE x is pending with the mark; behind the second store x
+     * is in group 0 and y in group 1; x flushed at the mark, which is gone; x flushed before y, whose group is now 0. */
+    uint8_t expected[4][SLOT] = {{0}};
+    const size_t slots[] = {3, 7, 9, 13};
+    const uint32_t links[] = {64 * 1 + 0, 64 * 3 + 0, 64 * 3 + 4, 64 * 7 + 4};
+    uint8_t job[sizeof PASSING];
+    uint64_t answer[4];
+    expected[0][0] = 2, expected[0][28] = 128 + 1, expected[0][30] = 1;
+    expected[1][0] = 3, expected[1][28] = 2, expected[1][30] = 1, expected[1][31] = 16 + 1, expected[1][32] = 1;
+    expected[2][0] = 2, expected[2][20] = 1;
+    expected[3][0] = 3, expected[3][20] = 1, expected[3][28] = 1, expected[3][29] = 1, expected[3][30] = 1;
+    Lent m = lend(ROOM * SLOT, ROOM, ROOM);
+    search(PASSING, sizeof PASSING, &m, answer);
+    CHECK(answer_is(answer, 2, 30, 0, 0));
+    for (size_t k = 0; k < 4; k++) {
+        CHECK(memcmp(m.table + guard + slots[k] * SLOT, expected[k], SLOT) == 0);
+        CHECK(m.links[guard + slots[k]] == links[k]);
+    }
+    CHECK(rest_kept(&m, 30 * SLOT, 30, 0));
+    give_back(m);
+    memcpy(job, PASSING, sizeof PASSING);
+    job[BETWEEN] = 2;
+    m = lend(ROOM * SLOT, ROOM, ROOM);
+    search(job, sizeof job, &m, answer);
+    CHECK(answer[0] == 1 && answer[1] == sizeof steps && answer[3] == 0);
+    CHECK(memcmp(m.schedule + guard, steps, sizeof steps) == 0);
+    CHECK(rest_kept(&m, answer[2] * SLOT, answer[2], sizeof steps));
+    give_back(m);
+    /* The same schedule is stuck at the flush of y while x is pending in an older group. */
+    CHECK(replayed(PASSING, sizeof PASSING, "00 00 00 05 01 01", 3, 3, 6));
+    job[MODEL] = TSO;
+    m = lend(ROOM * SLOT, ROOM, ROOM);
+    search(job, sizeof job, &m, answer);
+    CHECK(answer[0] == 2);
+    give_back(m);
+}
+
+/* Whether GROUPS under this model and C, with this clause for a goal, answers a replay so. */
+static int groups(uint8_t model, uint8_t capacity, const uint8_t clause[4], const char *hex, uint64_t a, uint64_t b, uint64_t c) {
+    uint8_t job[sizeof GROUPS];
+    memcpy(job, GROUPS, sizeof GROUPS);
+    job[MODEL] = model, job[CAPACITY] = capacity;
+    memcpy(job + CLAUSE, clause, 4);
+    return replayed(job, sizeof job, hex, a, b, c);
+}
+
+/* Steps of the one thread are 00, its flushes to x, y, z 04, 05, 06. */
+static void group_reasons(void) {
+    const uint8_t start[4] = {1, 0, 0, 0}, x3[4] = {3, 0, 0, 3}, x7[4] = {3, 0, 0, 7}, r3[4] = {2, 0, 0, 3};
+    /* PSO, with x pending before y and x: 6 for y, until x is flushed; 5 for z, which is pending nowhere; 1 for variable 3. */
+    CHECK(groups(PSO, 3, start, "00 00 00 00 05", 3, 4, 6));
+    CHECK(groups(PSO, 3, start, "00 00 00 00 00 05", 3, 5, 6));
+    CHECK(groups(PSO, 3, start, "00 00 00 00 00 06", 3, 5, 5));
+    CHECK(groups(PSO, 3, start, "00 00 00 00 00 07", 3, 5, 1));
+    CHECK(groups(PSO, 3, start, "00 00 00 00 00 04 05 04 04", 3, 8, 5));
+    CHECK(groups(PSO, 3, start, "00 00 00 00 00 04 04 05 05", 3, 8, 5));
+    /* 3: C counts the stores of all groups; the WFENCEs run at a full buffer too. */
+    CHECK(groups(PSO, 2, start, "00 00 00 00 00", 3, 4, 3));
+    CHECK(groups(PSO, 1, start, "00 00 00 00", 3, 3, 3));
+    CHECK(groups(PSO, 3, start, "00 00 00 00 00 00", 2, 0, 0));
+    /* TSO: a WFENCE does nothing, so the second x is behind y. SC: nothing is ever pending. */
+    CHECK(groups(TSO, 3, start, "00 00 00 00 00 05", 3, 5, 6));
+    CHECK(groups(TSO, 3, start, "00 00 00 00 00 04 04", 3, 6, 6));
+    CHECK(groups(TSO, 3, start, "00 00 00 00 00 04 05 04", 2, 0, 0));
+    CHECK(groups(SC, 0, start, "00 00 00 00 00 00 04", 3, 6, 5));
+    for (uint8_t model = TSO; model <= PSO; model++) {
+        /* 4: a CMPX waits for an empty buffer, also while memory's x is not what the register holds. */
+        CHECK(groups(model, 3, start, "00 00 00 00 00 00 00", 3, 6, 4));
+        CHECK(groups(model, 3, start, "00 00 00 00 00 00 04 05 00", 3, 8, 4));
+        /* r0 is 0 and x is 3: the first CMPX leaves x and takes 3; then they are equal, and the second makes x 7. */
+        CHECK(groups(model, 3, x3, "00 00 00 00 00 00 04 05 04 00", 1, 0, 0));
+        CHECK(groups(model, 3, r3, "00 00 00 00 00 00 04 05 04 00", 1, 0, 0));
+        CHECK(groups(model, 3, x7, "00 00 00 00 00 00 04 05 04 00", 2, 0, 0));
+        CHECK(groups(model, 3, x7, "00 00 00 00 00 00 04 05 04 00 00", 1, 0, 0));
+        CHECK(groups(model, 3, r3, "00 00 00 00 00 00 04 05 04 00 00", 1, 0, 0));
+    }
+    CHECK(groups(SC, 0, x7, "00 00 00 00 00 00 00 00", 1, 0, 0));
+}
+
+/* Whether a counted slot has thread 0 at this place with this buffer, and 0 behind it. */
+static int has_buffer(const Lent *m, size_t counted, uint8_t place, const uint8_t *bytes, size_t size) {
+    uint8_t buffer[17] = {0};
+    memcpy(buffer, bytes, size);
+    for (size_t i = 0; i < counted; i++) {
+        const uint8_t *slot = m->table + guard + i * SLOT;
+        if (slot[0] == place && memcmp(slot + 28, buffer, sizeof buffer) == 0) return 1;
+    }
+    return 0;
+}
+
+/* The buffers of GROUPS in the slots: pairs by group and then by variable, groups from the oldest present, the mark while a store is there. */
+static void group_slots(void) {
+    static const uint8_t none[] = {0}, first[] = {128 + 1, 0, 1}, joined[] = {2, 0, 1, 17, 2}, full[] = {3, 0, 1, 16, 3, 17, 2};
+    static const uint8_t marked[] = {128 + 3, 0, 1, 16, 3, 17, 2}, renumbered[] = {128 + 2, 0, 3, 1, 2};
+    static const uint8_t x_left[] = {128 + 1, 0, 3}, y_left[] = {128 + 1, 1, 2};
+    const uint8_t never[4] = {2, 0, 0, 9};
+    uint8_t job[sizeof GROUPS];
+    uint64_t answer[4];
+    memcpy(job, GROUPS, sizeof GROUPS);
+    memcpy(job + CLAUSE, never, 4);
+    Lent m = lend(ROOM * SLOT, ROOM, ROOM);
+    search(job, sizeof job, &m, answer);
+    CHECK(answer[0] == 2);
+    const size_t counted = answer[1];
+    for (uint8_t place = 2; place <= 3; place++) {
+        /* The second WFENCE finds the first one's mark; on an empty buffer neither leaves anything. */
+        CHECK(has_buffer(&m, counted, place, first, sizeof first));
+        CHECK(has_buffer(&m, counted, place, none, sizeof none));
+    }
+    CHECK(has_buffer(&m, counted, 4, joined, sizeof joined));
+    CHECK(has_buffer(&m, counted, 5, full, sizeof full));
+    CHECK(has_buffer(&m, counted, 6, marked, sizeof marked));
+    CHECK(has_buffer(&m, counted, 6, renumbered, sizeof renumbered));
+    CHECK(has_buffer(&m, counted, 6, x_left, sizeof x_left));
+    CHECK(has_buffer(&m, counted, 6, y_left, sizeof y_left));
+    CHECK(has_buffer(&m, counted, 6, none, sizeof none));
+    /* No mark without a store, and none once a store has joined. */
+    for (size_t i = 0; i < counted; i++) {
+        const uint8_t *slot = m.table + guard + i * SLOT;
+        CHECK(slot[28] != 128);
+        CHECK(slot[28] < 128 || slot[0] == 2 || slot[0] == 3 || slot[0] == 6);
+    }
+    CHECK(rest_kept(&m, counted * SLOT, counted, 0));
+    give_back(m);
+}
+
+/* Each CMPX in the slots: 0 is 0, and x becomes 5; 0 is not 5, and r0 becomes 5; 5 is 5, and x becomes 9. */
+static void compare_exchange(void) {
+    const uint8_t states[4][3] = {{0, 0, 0}, {1, 0, 5}, {2, 5, 5}, {3, 5, 9}};
+    uint64_t answer[4];
+    Lent m = lend(ROOM * SLOT, ROOM, ROOM);
+    search(COMPARING, sizeof COMPARING, &m, answer);
+    CHECK(answer_is(answer, 1, 3, 4, 0));
+    for (size_t k = 0; k < 4; k++) {
+        const uint8_t *slot = m.table + guard + k * SLOT;
+        CHECK(slot[0] == states[k][0] && slot[4] == states[k][1] && slot[20] == states[k][2]);
+    }
+    CHECK(rest_kept(&m, 4 * SLOT, 4, 3));
+    give_back(m);
+}
+
+/* P9 in version 2 with CMPX or WFENCE in place of its fences: CMPX is a fence to the check, WFENCE is none, and neither is a store or a load. */
+static void version_two_fences(void) {
+    enum { FIRST = 14, SECOND = 27 };
+    const uint8_t cmpx[4] = {0x0A, 0, 0, 1}, wfence[4] = {0x0B, 0, 0, 0};
+    uint8_t job[sizeof P9];
+    uint64_t answer[4];
+    memcpy(job, P9, sizeof P9);
+    job[VERSION] = 2;
+    memcpy(job + FIRST, cmpx, 4), memcpy(job + SECOND, cmpx, 4);
+    fences(job, sizeof job, answer);
+    CHECK(answer_is(answer, 1, 0, 0, 0));
+    memcpy(job + SECOND, wfence, 4);
+    fences(job, sizeof job, answer);
+    CHECK(answer_is(answer, 2, 1, 0, 2));
+    memcpy(job + FIRST, wfence, 4);
+    fences(job, sizeof job, answer);
+    CHECK(answer_is(answer, 2, 0, 0, 2));
+    /* In place of the stores too: then there is no store. */
+    memcpy(job + FIRST - 4, cmpx, 4), memcpy(job + SECOND - 4, wfence, 4);
+    fences(job, sizeof job, answer);
+    CHECK(answer_is(answer, 1, 0, 0, 0));
+    /* Stores, and in place of the loads CMPX and WFENCE: then there is no load. */
+    memcpy(job, P9, sizeof P9);
+    job[VERSION] = 2;
+    memcpy(job + FIRST, wfence, 4), memcpy(job + SECOND, wfence, 4);
+    memcpy(job + FIRST + 4, cmpx, 4), memcpy(job + SECOND + 4, wfence, 4);
+    fences(job, sizeof job, answer);
+    CHECK(answer_is(answer, 1, 0, 0, 0));
+}
+
 /* Nothing lent: refusal 7 for whichever buffer is empty, and 1 to 6 before it. NULL stands for an empty buffer. */
 static void empty_buffers(void) {
-    static const uint8_t version[] = {0x00, 0x01, 0x02};
+    static const uint8_t version[] = {0x00, 0x01, 0x00};
     uint64_t answer[4];
     size_t sizes[4][3] = {{0, ROOM, ROOM}, {95, ROOM, ROOM}, {ROOM * SLOT, 0, ROOM}, {ROOM * SLOT, ROOM, 0}};
     for (size_t k = 0; k < 4; k++) {
@@ -555,6 +819,13 @@ int main(void) {
         refusals();
         blank_goals();
         long_threads();
+        versions();
+        both_versions();
+        store_store_fence();
+        group_reasons();
+        group_slots();
+        compare_exchange();
+        version_two_fences();
         empty_buffers();
     }
     printf("%d checks hold\n", checks);

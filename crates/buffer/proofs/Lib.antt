@@ -1,3 +1,4 @@
 pub mod CarryLaws
 pub mod PlaceLaws
 pub mod ReadLaws
+pub mod GroupLaws

@@ -1,16 +1,18 @@
 -- The rules on a buffer are what they say by index, and carrying a pair along a list moves the place where it goes in.
 use mathlib.Core.Path.{_≡_, refl, sym, ap, ap₂, _∙_}
-use mathlib.Core.Bool.{Bool, true, false, not, cond, _||_}
+use mathlib.Core.Bool.{Bool, true, false, not, cond, _&&_, _||_}
 use mathlib.Core.List.{List, [], _∷_, _++_, append-nil}
-use Prim.Native.Nat.{ℕ, zero, suc, _-_, _≤_, _<_}
+use Prim.Native.Nat.{ℕ, zero, suc, _-_, _/_, _%_, _≤_, _<_}
 use native.Mathlib.Omega.{arith}
+use native.Mathlib.Decide.{decLt}
 use lib.Dec.{eqb, ltb, leb, leb·suc-suc}
-use borrow.Author.Tests.{lt-ltb, eq-eqb, ne-eqb}
+use borrow.Author.Tests.{lt-ltb, le-ltb, lt-leb, le-leb, eq-eqb, ne-eqb}
 use lib.ListN.{length, getD, set, replicate, length-append}
-use Rattle.rules.specs.Limits.{most-pending}
+use Rattle.rules.specs.Limits.{most-pending, group-unit}
 use Rattle.rules.specs.State.{Pending}
-use Rattle.rules.specs.Step.{by-variable, oldest-to, without-oldest-to, is-empty, is-pending-to}
-use Rattle.buffer.specs.Places.{no-pair, padded, first, is-to, is-after, with-at, without-at}
+use Rattle.rules.specs.Step.{stands-before, in-its-place, newest-group, oldest-to, without-oldest-to, is-empty, is-pending-to, is-in-oldest-group}
+use Rattle.buffer.specs.Held.{pair}
+use Rattle.buffer.specs.Places.{no-pair, padded, first, is-to, is-next-to, is-after, with-at, without-at}
 
 module _ {A : Type 0} where
   pub first-within : (f : A → Bool) (l : List A) → first f l ≤ length l
@@ -109,40 +111,90 @@ take-out l s i c h few size e =
     (omega (arith, number, length-append (without-at i l) (no-pair ∷ unused))) (e ∙ right) in
     (same .0, same .1 ∙ ap (λ n. without-at i l ++ replicate n no-pair) count)
 
--- PSO keeps a store before the first to a later variable.
-by-variable-at : (q : Pending) (b : List Pending) → by-variable q b ≡ with-at (first (is-after (q .variable)) b) q b
-unfolding by-variable first
-by-variable-at q [] = refl
-by-variable-at q (p ∷ b) = either (leb (p .variable) (q .variable)) (by-variable-at q b)
+-- PSO keeps a store before the first that stands behind its place.
+in-its-place-at : (q : Pending) (b : List Pending) → in-its-place q b ≡ with-at (first (is-after q) b) q b
+unfolding in-its-place first
+in-its-place-at q [] = refl
+in-its-place-at q (p ∷ b) = either (stands-before p q) (in-its-place-at q b)
   where
     either :
-        (t : Bool) → by-variable q b ≡ with-at (first (is-after (q .variable)) b) q b →
-        cond t (p ∷ by-variable q b) (q ∷ p ∷ b) ≡ with-at (cond (not t) 0 (suc (first (is-after (q .variable)) b))) q (p ∷ b)
+        (t : Bool) → in-its-place q b ≡ with-at (first (is-after q) b) q b →
+        cond t (p ∷ in-its-place q b) (q ∷ p ∷ b) ≡ with-at (cond (not t) 0 (suc (first (is-after q) b))) q (p ∷ b)
     either true e = ap {B = List Pending} (λ r. p ∷ r) e
     either false e = refl
 
-pub sorted-place :
-    (q : Pending) (b : List Pending) (n : ℕ) → n ≡ first (is-after (q .variable)) b → with-at n q b ≡ by-variable q b
-sorted-place q b n e = ap (λ i. with-at i q b) e ∙ sym (by-variable-at q b)
+pub sorted-place : (q : Pending) (b : List Pending) (n : ℕ) → n ≡ first (is-after q) b → with-at n q b ≡ in-its-place q b
+sorted-place q b n e = ap (λ i. with-at i q b) e ∙ sym (in-its-place-at q b)
+
+-- Group and then variable is the order of the variable bytes.
+pub before-by-byte : (c d k l : ℕ) → stands-before (pair c k) (pair d l) ≡ leb c d
+unfolding stands-before
+before-by-byte c d k l = which (decLt (c / group-unit) (d / group-unit)) (decLt (d / group-unit) (c / group-unit)) (decLt d c)
+  where
+    which : Dec (c / group-unit < d / group-unit) → Dec (d / group-unit < c / group-unit) → Dec (d < c)
+        → (ltb (c / group-unit) (d / group-unit) || (eqb (c / group-unit) (d / group-unit) && leb (c % group-unit) (d % group-unit))) ≡ leb c d
+    which (yes lower) _ _ = let h : c ≤ d = omega arith in rw (lt-ltb _ _ lower, le-leb c d h)
+    which (no n) (yes higher) _ =
+        let h : d < c = omega arith in
+        let from : d / group-unit ≤ c / group-unit = omega arith in
+        rw (le-ltb _ _ from, ne-eqb (c / group-unit) (d / group-unit) (λ e. omega arith), lt-leb c d h)
+    which (no n) (no m) (yes behind) =
+        let same : c / group-unit ≡ d / group-unit = omega arith in
+        let h : d % group-unit < c % group-unit = omega arith in
+        let from : d / group-unit ≤ c / group-unit = omega arith in
+        rw (le-ltb _ _ from, eq-eqb (c / group-unit) (d / group-unit) same, lt-leb (c % group-unit) (d % group-unit) h, lt-leb c d behind)
+    which (no n) (no m) (no before) =
+        let same : c / group-unit ≡ d / group-unit = omega arith in
+        let h : c % group-unit ≤ d % group-unit = omega arith in
+        let from : d / group-unit ≤ c / group-unit = omega arith in
+        let up : c ≤ d = omega arith in
+        rw (le-ltb _ _ from, eq-eqb (c / group-unit) (d / group-unit) same, le-leb (c % group-unit) (d % group-unit) h, le-leb c d up)
+
+-- The newest group is that of the last store.
+pub newest-last : (g : ℕ) (b : List Pending) → 1 ≤ length b → newest-group g b ≡ getD b (length b - 1) no-pair .group
+unfolding newest-group
+newest-last g [] h = absurd (omega arith)
+newest-last g (p ∷ []) h = refl
+newest-last g (p ∷ q ∷ b) h =
+    let up : suc (suc (length b)) - 1 ≡ suc (suc (length b) - 1) = omega arith in
+    newest-last (p .group) (q ∷ b) (omega arith) ∙ sym (ap (λ n. getD (p ∷ q ∷ b) n no-pair .group) up)
 
 -- TSO keeps a store behind the last.
 pub last-place : (q : Pending) (b : List Pending) (n : ℕ) → length b ≡ n → with-at n q b ≡ b ++ (q ∷ [])
 last-place q b n e = ap (λ i. with-at i q b) (sym e) ∙ with-at-last b q
 
--- A store to v is pending where a search for one ends before the last.
-pending-within : (v : ℕ) (b : List Pending) → is-pending-to v b ≡ ltb (first (is-to v) b) (length b)
-unfolding is-pending-to first
-pending-within v [] = refl
-pending-within v (p ∷ b) = either (eqb (p .variable) v) (pending-within v b)
+-- One that passes a test is pending where a search for one ends before the last.
+unfoldable any : (Pending → Bool) → List Pending → Bool
+any f [] = false
+any f (p ∷ b) = f p || any f b
+
+any-within : (f : Pending → Bool) (b : List Pending) → any f b ≡ ltb (first f b) (length b)
+unfolding any first
+any-within f [] = refl
+any-within f (p ∷ b) = either (f p) (any-within f b)
   where
-    either :
-        (t : Bool) → is-pending-to v b ≡ ltb (first (is-to v) b) (length b) →
-        (t || is-pending-to v b) ≡ ltb (cond t 0 (suc (first (is-to v) b))) (suc (length b))
+    either : (t : Bool) → any f b ≡ ltb (first f b) (length b) → (t || any f b) ≡ ltb (cond t 0 (suc (first f b))) (suc (length b))
     either true e = sym (lt-ltb 0 (suc (length b)) (omega arith))
-    either false e = e ∙ sym (leb·suc-suc (suc (first (is-to v) b)) (length b))
+    either false e = e ∙ sym (leb·suc-suc (suc (first f b)) (length b))
+
+any-by-index : (f : Pending → Bool) (b : List Pending) (i n : ℕ) → i ≡ first f b → length b ≡ n → ltb i n ≡ any f b
+any-by-index f b i n e number = rw (e, ← number) (sym (any-within f b))
+
+any-to : (v : ℕ) (b : List Pending) → any (is-to v) b ≡ is-pending-to v b
+unfolding any is-pending-to
+any-to v [] = refl
+any-to v (p ∷ b) = ap (λ z. is-to v p || z) (any-to v b)
+
+any-next-to : (v : ℕ) (b : List Pending) → any (is-next-to v) b ≡ is-in-oldest-group v b
+unfolding any is-in-oldest-group
+any-next-to v [] = refl
+any-next-to v (p ∷ b) = ap (λ z. is-next-to v p || z) (any-next-to v b)
 
 pub pending-by-index : (v : ℕ) (b : List Pending) (i n : ℕ) → i ≡ first (is-to v) b → length b ≡ n → ltb i n ≡ is-pending-to v b
-pending-by-index v b i n e number = rw (e, ← number) (sym (pending-within v b))
+pending-by-index v b i n e number = any-by-index (is-to v) b i n e number ∙ any-to v b
+
+pub next-by-index : (v : ℕ) (b : List Pending) (i n : ℕ) → i ≡ first (is-next-to v) b → length b ≡ n → ltb i n ≡ is-in-oldest-group v b
+next-by-index v b i n e number = any-by-index (is-next-to v) b i n e number ∙ any-next-to v b
 
 -- The oldest store to v is the first to v.
 pub oldest-at : (v : ℕ) (b : List Pending) → oldest-to v b ≡ getD b (first (is-to v) b) no-pair .value

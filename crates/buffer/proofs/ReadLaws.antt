@@ -10,60 +10,60 @@ use borrow.Author.Tests.{ne-eqb}
 use lib.ListN.{length, getD, drop, drop-of-length-le}
 use Rattle.rules.specs.State.{Pending}
 use Rattle.rules.specs.Step.{newest, is-oldest-to}
-use Rattle.buffer.specs.Held.{held-buffer, BufferOk}
+use Rattle.buffer.specs.Held.{number, held-pending, BufferOk}
 use Rattle.buffer.specs.HeldLaws.{held-number, held-at, held-from}
 use Rattle.buffer.specs.Places.{no-pair, pair-at, first, is-to}
 use Rattle.buffer.specs.declared.Buf.{Buf}
 
 -- a search that has come to index i: what is left decides
 pub record Searched (f : Pending → Bool) (b : Buf) (i : ℕ) : Type 0 where
-  pub within : i ≤ b .len
-  pub is : i + first f (drop i (held-buffer b)) ≡ first f (held-buffer b)
+  pub within : i ≤ number b
+  pub is : i + first f (drop i (held-pending b)) ≡ first f (held-pending b)
 
 -- what is seen before index i, and then what is left
 pub record Seen (v memory : ℕ) (b : Buf) (seen i : ℕ) : Type 0 where
-  pub within : i ≤ b .len
-  pub is : newest v seen (drop i (held-buffer b)) ≡ newest v memory (held-buffer b)
+  pub within : i ≤ number b
+  pub is : newest v seen (drop i (held-pending b)) ≡ newest v memory (held-pending b)
 
 module _ (b : Buf) (ok : BufferOk b) where
-  none-left : (i : ℕ) → b .len ≤ i → drop i (held-buffer b) ≡ []
-  none-left i h = drop-of-length-le (held-buffer b) {i = i} (omega (arith, held-number b ok))
+  none-left : (i : ℕ) → number b ≤ i → drop i (held-pending b) ≡ []
+  none-left i h = drop-of-length-le (held-pending b) {i = i} (omega (arith, held-number b ok))
 
   -- the oldest store is the pair at index 0, if there is one
-  pub oldest-first : (v : ℕ) → (not (eqb (b .len) 0) && eqb (pair-at (b .slots) 0 .variable) v) ≡ is-oldest-to v (held-buffer b)
+  pub oldest-first : (v : ℕ) → (not (eqb (number b) 0) && is-to v (pair-at (b .slots) 0)) ≡ is-oldest-to v (held-pending b)
   unfolding is-oldest-to
-  oldest-first v = which (held-buffer b) (held-number b ok) (held-at b ok 0)
+  oldest-first v = which (held-pending b) (held-number b ok) (held-at b ok 0)
     where
       which :
-          (l : List Pending) → length l ≡ b .len → (0 < b .len → getD l 0 no-pair ≡ pair-at (b .slots) 0) →
-          (not (eqb (b .len) 0) && eqb (pair-at (b .slots) 0 .variable) v) ≡ is-oldest-to v l
-      which [] number oldest = rw (← number)
-      which (p ∷ l) number oldest =
+          (l : List Pending) → length l ≡ number b → (0 < number b → getD l 0 no-pair ≡ pair-at (b .slots) 0) →
+          (not (eqb (number b) 0) && is-to v (pair-at (b .slots) 0)) ≡ is-oldest-to v l
+      which [] is oldest = rw (← is)
+      which (p ∷ l) is oldest =
           let same = ap (λ (p : Pending). p .variable) (oldest (omega arith)) in
-          rw (ne-eqb (b .len) 0 (λ e. omega arith), ← same)
+          rw (ne-eqb (number b) 0 (λ e. omega arith), ← same)
 
   module _ (f : Pending → Bool) where
     pub search-starts : Searched f b 0
-    search-starts = record { within = omega arith; is = zero-add (first f (held-buffer b)) }
+    search-starts = record { within = omega arith; is = zero-add (first f (held-pending b)) }
 
-    pub search-finds : (i : ℕ) → i < b .len → f (pair-at (b .slots) i) ≡ true → Searched f b i → i ≡ first f (held-buffer b)
+    pub search-finds : (i : ℕ) → i < number b → f (pair-at (b .slots) i) ≡ true → Searched f b i → i ≡ first f (held-pending b)
     unfolding first
     search-finds i h t s =
-        let here : first f (drop i (held-buffer b)) ≡ 0 =
-        ap (first f) (held-from b ok i h) ∙ ap (λ z. cond z 0 (suc (first f (drop (i + 1) (held-buffer b))))) t in
+        let here : first f (drop i (held-pending b)) ≡ 0 =
+        ap (first f) (held-from b ok i h) ∙ ap (λ z. cond z 0 (suc (first f (drop (i + 1) (held-pending b))))) t in
         omega (arith, s .is)
 
-    pub search-goes-on : (i : ℕ) → i < b .len → f (pair-at (b .slots) i) ≡ false → Searched f b i → Searched f b (i + 1)
+    pub search-goes-on : (i : ℕ) → i < number b → f (pair-at (b .slots) i) ≡ false → Searched f b i → Searched f b (i + 1)
     unfolding first
     search-goes-on i h t s =
-        let later : first f (drop i (held-buffer b)) ≡ suc (first f (drop (i + 1) (held-buffer b))) =
-        ap (first f) (held-from b ok i h) ∙ ap (λ z. cond z 0 (suc (first f (drop (i + 1) (held-buffer b))))) t in
+        let later : first f (drop i (held-pending b)) ≡ suc (first f (drop (i + 1) (held-pending b))) =
+        ap (first f) (held-from b ok i h) ∙ ap (λ z. cond z 0 (suc (first f (drop (i + 1) (held-pending b))))) t in
         record { within = omega arith; is = omega (arith, s .is) }
 
-    pub search-ends : (i : ℕ) → b .len ≤ i → Searched f b i → i ≡ first f (held-buffer b)
+    pub search-ends : (i : ℕ) → number b ≤ i → Searched f b i → i ≡ first f (held-pending b)
     unfolding first
     search-ends i h s =
-        let over : first f (drop i (held-buffer b)) ≡ 0 = ap (first f) (none-left i h) in
+        let over : first f (drop i (held-pending b)) ≡ 0 = ap (first f) (none-left i h) in
         omega (arith, s .is)
 
   module _ (v memory : ℕ) where
@@ -72,18 +72,18 @@ module _ (b : Buf) (ok : BufferOk b) where
 
     -- a store to v is seen, any other is not
     pub seen-goes-on :
-        (seen i next : ℕ) → i < b .len → next ≡ cond (is-to v (pair-at (b .slots) i)) (pair-at (b .slots) i .value) seen →
+        (seen i next : ℕ) → i < number b → next ≡ cond (is-to v (pair-at (b .slots) i)) (pair-at (b .slots) i .value) seen →
         Seen v memory b seen i → Seen v memory b next (i + 1)
     unfolding newest
     seen-goes-on seen i next h e s =
         record {
           within = omega arith;
           is =
-              ap (λ k. newest v k (drop (i + 1) (held-buffer b))) e
+              ap (λ k. newest v k (drop (i + 1) (held-pending b))) e
               ∙ sym (ap (newest v seen) (held-from b ok i h))
               ∙ s .is;
         }
 
-    pub seen-ends : (seen i : ℕ) → b .len ≤ i → Seen v memory b seen i → seen ≡ newest v memory (held-buffer b)
+    pub seen-ends : (seen i : ℕ) → number b ≤ i → Seen v memory b seen i → seen ≡ newest v memory (held-pending b)
     unfolding newest
     seen-ends seen i h s = sym (ap (newest v seen) (none-left i h)) ∙ s .is

@@ -1,22 +1,24 @@
 -- Pending stores by index: where one is found, and where one goes in or out.
-use mathlib.Core.Bool.{Bool, not, cond}
+use mathlib.Core.Bool.{Bool, not, cond, _&&_}
 use mathlib.Core.List.{List, [], _∷_, _++_}
 use Prim.Native.Nat.{ℕ, suc, _+_, _*_, _-_}
-use lib.Dec.{eqb, leb}
+use lib.Dec.{eqb}
 use lib.ListN.{length, getD, set, take, drop, replicate}
 use Rattle.rules.specs.Limits.{most-pending}
 use Rattle.rules.specs.State.{Pending}
+use Rattle.rules.specs.Step.{stands-before}
+use Rattle.buffer.specs.Held.{pair}
 
 -- an unused pair
 abbrev pub no-pair : Pending
-no-pair = record { variable = 0; value = 0 }
+no-pair = record { group = 0; variable = 0; value = 0 }
 
 -- the pair at an index of the bytes, and the bytes with a pair written there
 abbrev pub pair-at : List ℕ → ℕ → Pending
-pair-at s i = record { variable = getD s (2 * i) 0; value = getD s (2 * i + 1) 0 }
+pair-at s i = pair (getD s (2 * i) 0) (getD s (2 * i + 1) 0)
 
-abbrev pub set-pair : List ℕ → (i v k : ℕ) → List ℕ
-set-pair s i v k = set (set s (2 * i) v) (2 * i + 1) k
+abbrev pub set-pair : List ℕ → (i byte value : ℕ) → List ℕ
+set-pair s i byte value = set (set s (2 * i) byte) (2 * i + 1) value
 
 -- pending stores and unused pairs, together as many as there is room for
 abbrev pub padded : List Pending → List Pending
@@ -27,12 +29,15 @@ unfoldable pub first : {A : Type 0} → (A → Bool) → List A → ℕ
 first f [] = 0
 first f (x ∷ l) = cond (f x) 0 (suc (first f l))
 
--- whether a store is to v, and whether it is to a variable after v
+-- whether a store is to v; whether it is one of the oldest group to v; whether it stands behind where q goes in
 abbrev pub is-to : ℕ → Pending → Bool
 is-to v p = eqb (p .variable) v
 
-abbrev pub is-after : ℕ → Pending → Bool
-is-after v p = not (leb (p .variable) v)
+abbrev pub is-next-to : ℕ → Pending → Bool
+is-next-to v p = eqb (p .group) 0 && eqb (p .variable) v
+
+abbrev pub is-after : Pending → Pending → Bool
+is-after q p = not (stands-before p q)
 
 -- the list with x put in at index i, and the list without what stands there
 abbrev pub with-at : {A : Type 0} → ℕ → A → List A → List A

@@ -1,20 +1,24 @@
 // A store joins a buffer.
 use crate::Buf;
+use rules::GROUP_UNIT;
+use rules::MARK_UNIT;
 ghost use mathlib.Core.Path.{_≡_};
 ghost use mathlib.Core.List.{[], _∷_, _++_};
+ghost use Prim.Native.Nat.{_/_, _<_};
+ghost use Rattle.rules.specs.Limits.{group-unit};
 ghost use Rattle.rules.specs.Step as rules;
-ghost use Rattle.buffer.specs.Held.{held-buffer, BufferOk};
+ghost use Rattle.buffer.specs.Held.{pair, held-pending, held-buffer, BufferOk};
 ghost use Rattle.buffer.specs.Places.{first, is-after, with-at};
-ghost use Rattle.buffer.specs.Posts.{HasRoom, RoomAt, Holds};
+ghost use Rattle.buffer.specs.Posts.{HasRoom, RoomAt, GroupHasRoom, Joined};
 
-// A store goes in at an index: each later pair is carried one place up, the first unused pair the last.
-fn put_in(b: Buf, at: usize, v: u8, k: u8) -> Buf
+// A store goes in at an index: each later pair is carried one place up, the first unused pair the last. The mark, if there is one, ends.
+fn put_in(b: Buf, at: usize, byte: u8, k: u8) -> Buf
     requires { ⌜ RoomAt b at ⌝ }
-    ensures { λ r. ⌜ Holds r (with-at at (record { variable = v; value = k }) (held-buffer b)) ⌝ }
+    ensures { λ r. ⌜ Joined r (with-at at (pair byte k) (held-pending b)) ⌝ }
 {
-    let n = b.len as usize;
+    let n = (b.count % MARK_UNIT) as usize;
     let mut s = b.slots;
-    let mut variable = v;
+    let mut variable = byte;
     let mut value = k;
     let mut i = at;
     while i <= n {
@@ -28,28 +32,29 @@ fn put_in(b: Buf, at: usize, v: u8, k: u8) -> Buf
         value = next_value;
         i += 1;
     }
-    let len = b.len + 1;
-    Buf { len, slots: s }
+    let count = b.count % MARK_UNIT + 1;
+    Buf { count, slots: s }
 }
 
-// TSO: a store joins the end.
+// TSO: a store joins the end; there is one group.
 pub fn with_last(b: Buf, v: u8, k: u8) -> Buf
     requires { ⌜ HasRoom b ⌝ }
-    ensures { λ r. ⌜ Holds r (held-buffer b ++ (record { variable = v; value = k } ∷ [])) ⌝ }
+    requires { ⌜ v < group-unit ⌝ }
+    ensures { λ r. ⌜ Joined r (held-pending b ++ (record { group = 0; variable = v; value = k } ∷ [])) ⌝ }
 {
-    let n = b.len as usize;
+    let n = (b.count % MARK_UNIT) as usize;
     put_in(b, n, v, k)
 }
 
-// The index of the first pending store to a variable after v, or how many there are.
-fn first_after(b: Buf, v: u8) -> usize
+// The index of the first pending store that stands behind where this one goes in, or how many there are.
+fn first_after(b: Buf, byte: u8, k: u8) -> usize
     requires { ⌜ BufferOk b ⌝ }
-    ensures { λ r. ⌜ r ≡ first (is-after v) (held-buffer b) ⌝ }
+    ensures { λ r. ⌜ r ≡ first (is-after (pair byte k)) (held-pending b) ⌝ }
 {
-    let n = b.len as usize;
+    let n = (b.count % MARK_UNIT) as usize;
     let mut i = 0;
     while i < n {
-        if v < b.slots[2 * i] {
+        if byte < b.slots[2 * i] {
             return i;
         }
         i += 1;
@@ -57,11 +62,46 @@ fn first_after(b: Buf, v: u8) -> usize
     i
 }
 
-// PSO: stores are kept by variable number, oldest first within a variable.
-pub fn with_sorted(b: Buf, v: u8, k: u8) -> Buf
-    requires { ⌜ HasRoom b ⌝ }
-    ensures { λ r. ⌜ Holds r (rules.by-variable (record { variable = v; value = k }) (held-buffer b)) ⌝ }
+// The group that a variable byte has.
+fn group_of(byte: u8) -> u8
+    ensures { λ r. ⌜ (r ≡ byte / group-unit) × (r < group-unit) ⌝ }
 {
-    let at = first_after(b, v);
-    put_in(b, at, v, k)
+    byte / GROUP_UNIT
+}
+
+// The newest group, that of the last store.
+fn newest_group(b: Buf) -> u8
+    requires { ⌜ BufferOk b ⌝ }
+    ensures { λ r. ⌜ (r ≡ rules.newest-group 0 (held-pending b)) × (r < group-unit) ⌝ }
+{
+    let n = (b.count % MARK_UNIT) as usize;
+    if n == 0 {
+        return 0;
+    }
+    let last = 2 * (n - 1);
+    group_of(b.slots[last])
+}
+
+// The group that a store joins: the newest, or a new one behind a WFENCE.
+fn joined_group(b: Buf) -> u8
+    requires { ⌜ BufferOk b ⌝ }
+    ensures { λ r. ⌜ r ≡ rules.joined-group (held-buffer b) ⌝ }
+{
+    let newest = newest_group(b);
+    if MARK_UNIT <= b.count {
+        return newest + 1;
+    }
+    newest
+}
+
+// PSO: stores are kept by group and then by variable number, oldest first within a variable.
+pub fn with_sorted(b: Buf, v: u8, k: u8) -> Buf
+    requires { ⌜ GroupHasRoom b v ⌝ }
+    ensures { λ r. ⌜
+        Joined r (rules.in-its-place (record { group = rules.joined-group (held-buffer b); variable = v; value = k }) (held-pending b))
+        ⌝ }
+{
+    let byte = GROUP_UNIT * joined_group(b) + v;
+    let at = first_after(b, byte, k);
+    put_in(b, at, byte, k)
 }

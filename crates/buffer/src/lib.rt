@@ -1,17 +1,21 @@
 // A thread's store buffer: pending stores that go in by value and come back.
+use rules::GROUP_UNIT;
+use rules::MARK_UNIT;
 use rules::PAIRS_SIZE;
 ghost use mathlib.Core.Path.{_≡_};
-ghost use mathlib.Core.List.{[]};
+ghost use lib.ListN.{length};
+ghost use Rattle.rules.specs.State.{empty-buffer};
 ghost use Rattle.rules.specs.Step as rules;
-ghost use Rattle.buffer.specs.Held.{held-buffer, BufferOk};
+ghost use Rattle.buffer.specs.Held.{held-pending, held-buffer, BufferOk};
 ghost use Rattle.buffer.specs.Posts.{Holds};
 
 pub mod flush; // a store leaves, if it may
 pub mod join; // a store joins
 
-// How many stores are pending, and their pairs of variable and value; unused pairs are 0.
+// The count byte: how many stores are pending, and 128 more while a WFENCE stands after the newest. Then a pair for each store: a byte of
+// 16 times its group plus its variable, and its value; unused pairs are 0.
 pub struct Buf {
-    pub len: u8,
+    pub count: u8,
     pub slots: [u8; PAIRS_SIZE],
 }
 
@@ -22,31 +26,53 @@ pub struct Taken {
 }
 
 pub fn empty() -> Buf
-    ensures { λ r. ⌜ Holds r [] ⌝ }
+    ensures { λ r. ⌜ Holds r empty-buffer ⌝ }
 {
     Buf {
-        len: 0,
+        count: 0,
         slots: [0; PAIRS_SIZE],
     }
 }
 
-pub fn is_empty(b: Buf) -> bool
+// How many stores are pending, in all groups.
+pub fn pending(b: Buf) -> u8
     requires { ⌜ BufferOk b ⌝ }
-    ensures { λ r. ⌜ r ≡ rules.is-empty (held-buffer b) ⌝ }
+    ensures { λ r. ⌜ r ≡ length (held-pending b) ⌝ }
 {
-    b.len == 0
+    b.count % MARK_UNIT
 }
 
-// What a load of v sees: the newest pending store to v, else memory.
+pub fn is_empty(b: Buf) -> bool
+    requires { ⌜ BufferOk b ⌝ }
+    ensures { λ r. ⌜ r ≡ rules.is-empty (held-pending b) ⌝ }
+{
+    b.count % MARK_UNIT == 0
+}
+
+// A WFENCE under PSO stands after the newest store, if there is one.
+pub fn marked(b: Buf) -> Buf
+    requires { ⌜ BufferOk b ⌝ }
+    ensures { λ r. ⌜ Holds r (rules.marked-buffer (held-buffer b)) ⌝ }
+{
+    let n = b.count % MARK_UNIT;
+    if n == 0 {
+        return empty();
+    }
+    let count = MARK_UNIT + n;
+    let slots = b.slots;
+    Buf { count, slots }
+}
+
+// What a load of v sees: the newest pending store to v, in whichever group, else memory.
 pub fn newest(b: Buf, v: u8, memory: u8) -> u8
     requires { ⌜ BufferOk b ⌝ }
-    ensures { λ r. ⌜ r ≡ rules.newest v memory (held-buffer b) ⌝ }
+    ensures { λ r. ⌜ r ≡ rules.newest v memory (held-pending b) ⌝ }
 {
-    let n = b.len as usize;
+    let n = (b.count % MARK_UNIT) as usize;
     let mut seen = memory;
     let mut i = 0;
     while i < n {
-        if b.slots[2 * i] == v {
+        if b.slots[2 * i] % GROUP_UNIT == v {
             seen = b.slots[2 * i + 1];
         }
         i += 1;

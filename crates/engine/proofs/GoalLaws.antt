@@ -9,16 +9,16 @@ use lib.ListN.{length, getElem?, length-map}
 use Rattle.reach.specs.ListLaws.{all-at, at-in, below-at, at-default}
 use Rattle.rules.specs.Limits.{most-threads, most-variables}
 use Rattle.rules.specs.State as states
-use Rattle.rules.specs.State.{Pending}
+use Rattle.rules.specs.State.{Buffer}
 use Rattle.rules.specs.Job.{Job}
 use Rattle.rules.specs.Step.{is-empty}
-use Rattle.rules.specs.Goal.{every, clause-holds, goal}
+use Rattle.rules.specs.Goal.{every, nothing-pending, clause-holds, goal}
 use Rattle.rules.specs.Sound.{ClauseIn, JobIn}
 use Rattle.rules.specs.declared.Clause.{Clause}
 use Rattle.rules.specs.declared.Clause.the-variants.{PlaceIs, RegisterIs, MemoryIs}
 use Rattle.rules.specs.declared.Instr.{Instr}
-use Rattle.buffer.specs.Held.{held-buffer}
-use Rattle.buffer.specs.Posts.{Holds as HoldsStores}
+use Rattle.buffer.specs.Held.{held-pending, held-buffer}
+use Rattle.buffer.specs.Posts.{Holds as HoldsBuffer}
 use Rattle.buffer.specs.declared.Buf.{Buf}
 use Rattle.tables.specs.Told.{goal-clause-of}
 use Rattle.tables.specs.declared.ClauseRead.{ClauseRead}
@@ -34,11 +34,11 @@ module _ (s : State) (ok : StateOk s) where
 
   pub buffer-at : (t : ℕ) → t < most-threads → getElem? (held s .buffers) t ≡ some (states.buffer t (held s))
   unfolding states.buffer
-  buffer-at t h = at-default (held s .buffers) t [] (omega (arith, buffers-held))
+  buffer-at t h = at-default (held s .buffers) t states.empty-buffer (omega (arith, buffers-held))
 
 -- a buffer's value is empty where its pending stores are none
-pub empty-as : {l : List Pending} {b : Buf} {e f : Bool} → HoldsStores b l → e ≡ is-empty (held-buffer b) → e ≡ f → is-empty l ≡ f
-empty-as p h k = ap is-empty (sym (p .held)) ∙ sym h ∙ k
+pub empty-as : {x : Buffer} {b : Buf} {e f : Bool} → HoldsBuffer b x → e ≡ is-empty (held-pending b) → e ≡ f → nothing-pending x ≡ f
+empty-as p h k = ap nothing-pending (sym (p .held)) ∙ sym h ∙ k
 
 -- a clause of a job in range speaks of parts that a state has
 clause-parts :
@@ -67,11 +67,11 @@ module _ (j : Job) (i : ℕ) (r : ClauseRead) (read : goal-clause-of r ≡ getEl
 module _ (j : Job) (x : states.State) where
   -- the flag asks for empty buffers
   pub goal-flag-on :
-      {b : Bool} → j .all-empty ≡ true → every is-empty (x .buffers) ≡ b → goal j x ≡ (b && every (clause-holds x) (j .clauses))
+      {b : Bool} → j .all-empty ≡ true → every nothing-pending (x .buffers) ≡ b → goal j x ≡ (b && every (clause-holds x) (j .clauses))
   unfolding goal
   goal-flag-on e h = ap₂ (λ f b. (not f || b) && every (clause-holds x) (j .clauses)) e h
 
   -- else the clauses alone decide
   pub goal-flag-off : j .all-empty ≡ false → goal j x ≡ every (clause-holds x) (j .clauses)
   unfolding goal
-  goal-flag-off e = ap (λ f. (not f || every is-empty (x .buffers)) && every (clause-holds x) (j .clauses)) e
+  goal-flag-off e = ap (λ f. (not f || every nothing-pending (x .buffers)) && every (clause-holds x) (j .clauses)) e

@@ -9,7 +9,7 @@ use native.Mathlib.Numerals.{add-one}
 use native.Mathlib.Omega.{arith}
 use lib.ListN.{length}
 use Rattle.rules.specs.Limits.{most-threads, most-variables, step-bound}
-use Rattle.rules.specs.State.{Pending, State, buffer}
+use Rattle.rules.specs.State.{Pending, State, pending}
 use Rattle.rules.specs.Job.{Job}
 use Rattle.rules.specs.Step.{is-empty, is-yes, is-pending-to, may-flush, flush-thread, flush-variable, may, enabled-below}
 use Rattle.rules.specs.declared.Model.{Model}
@@ -80,10 +80,10 @@ module _ (j : Job) (x : State) where
       (λ s from to. ap is-yes (no-flush j x s (omega arith) (inl (omega arith))))
 
   pub empty-adds-none :
-      (t : ℕ) → t < most-threads → t < length (j .threads) → length (j .initial) ≤ most-variables → is-empty (buffer t x) ≡ true →
+      (t : ℕ) → t < most-threads → t < length (j .threads) → length (j .initial) ≤ most-variables → is-empty (pending t x) ≡ true →
       enabled-below j x (most-threads + most-variables * t) ≡ enabled-below j x (most-threads + most-variables * (t + 1))
   empty-adds-none t h there few empty =
       sym
       (none-more (most-threads + most-variables * t) (length (j .initial))
-      (λ v l. ap is-yes (sym (may-flush-at j x t v h (omega arith) there l refl refl)) ∙ none-to-flush (j .model) v (buffer t x) empty))
+      (λ v l. ap is-yes (sym (may-flush-at j x t v h (omega arith) there l refl refl)) ∙ none-to-flush (j .model) v (pending t x) empty))
       ∙ absent-variables-add-none t h few

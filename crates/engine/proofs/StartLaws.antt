@@ -9,8 +9,9 @@ use lib.Seq.{ext-getD, getD-set-same, getD-set-other}
 use borrow.Author.Count.{below-more}
 use Rattle.reach.specs.ListLaws.{getD-padded}
 use Rattle.rules.specs.Limits.{most-threads, most-variables, all-registers}
+use Rattle.rules.specs.State.{empty-buffer}
 use Rattle.rules.specs.Job.{Job, start}
-use Rattle.buffer.specs.Posts.{Holds as HoldsStores}
+use Rattle.buffer.specs.Posts.{Holds as HoldsBuffer}
 use Rattle.buffer.specs.declared.Buf.{Buf}
 use Rattle.state.specs.Held.{held}
 use Rattle.state.specs.Parts.{Holds}
@@ -41,7 +42,7 @@ memory-is initial mem few size cells =
     padded v (no h) = getD-padded initial spare v 0 (omega arith) ∙ sym (List·getD-eq-default initial 0 (omega arith))
 
 pub starts :
-    (j : Job) → length (j .initial) ≤ most-variables → (mem : List ℕ) → Memory j mem → (b : Buf) → HoldsStores b [] →
+    (j : Job) → length (j .initial) ≤ most-variables → (mem : List ℕ) → Memory j mem → (b : Buf) → HoldsBuffer b empty-buffer →
     Holds
     (record { places = replicate most-threads 0; regs = replicate all-registers 0; mem = mem; bufs = b ∷ b ∷ b ∷ b ∷ [] })
     (start j)

@@ -8,7 +8,7 @@ use native.Mathlib.Decide.{decLt}
 use lib.ListN.{length}
 use borrow.Author.Tests.{lt-ltb, le-ltb}
 use Rattle.rules.specs.Limits.{most-threads, most-variables, most-pending, step-bound}
-use Rattle.rules.specs.State.{Pending, State, place, buffer}
+use Rattle.rules.specs.State.{Pending, State, place, pending}
 use Rattle.rules.specs.Job.{Job}
 use Rattle.rules.specs.Kinds.{wait-of}
 use Rattle.rules.specs.Step.{free, may-execute, may-flush, instruction-at, flush-thread, flush-variable, may, flushed, after-execute, after}
@@ -35,7 +35,7 @@ thread-in k few h = omega arith
 module _ (j : Job) (x : State) where
   -- below T a thread executes
   pub may-of-execute :
-      (t : ℕ) → t < most-threads → t < length (j .threads) → {p : ℕ} {b : List Pending} → p ≡ place t x → b ≡ buffer t x →
+      (t : ℕ) → t < most-threads → t < length (j .threads) → {p : ℕ} {b : List Pending} → p ≡ place t x → b ≡ pending t x →
       may-execute-at j t p b ≡ may j t x
   may-of-execute t h there at own = rw (may-executes j x t h, execute-of-thread j x t there, at, own)
 
@@ -46,7 +46,7 @@ module _ (j : Job) (x : State) where
   -- from 4 on it flushes, to a variable below V
   pub may-of-flush :
       (k : ℕ) → most-threads ≤ k → length (j .threads) ≤ most-threads → flush-thread k < length (j .threads) → flush-variable k < length (j .initial) →
-      {m : Model} {b : List Pending} → m ≡ j .model → b ≡ buffer (flush-thread k) x → may-flush m (flush-variable k) b ≡ may j k x
+      {m : Model} {b : List Pending} → m ≡ j .model → b ≡ pending (flush-thread k) x → may-flush m (flush-variable k) b ≡ may j k x
   may-of-flush k low few there used model own =
       rw (may-flushes j x k low (thread-in k few there), flush-of-variable j x (flush-thread k) (flush-variable k) there used, model, own)
 
@@ -70,7 +70,7 @@ module _ (j : Job) (x : State) where
   -- step 4 + 8t + v flushes thread t's store to v
   pub may-flush-at :
       (t v : ℕ) → t < most-threads → v < most-variables → t < length (j .threads) → v < length (j .initial) → {m : Model} {b : List Pending} →
-      m ≡ j .model → b ≡ buffer t x → may-flush m v b ≡ may j (most-threads + most-variables * t + v) x
+      m ≡ j .model → b ≡ pending t x → may-flush m v b ≡ may j (most-threads + most-variables * t + v) x
   may-flush-at t v h l there used model own = rw (may-flushes-to j x t v h l, flush-of-variable j x t v there used, model, own)
 
 -- T and V are an accepted job's numbers of threads and variables.
@@ -123,10 +123,10 @@ module _ {bytes : List ℕ} {l : Layout} (a : IsAccepted bytes l) (t p : ℕ) {r
     after-by-read e = rw (after-of-execute (job-of bytes) x t thread, ← at, stands-at e, a .laid .model)
 
     pub free-by-read :
-        {i : Instr} → r ≡ Holds i → may (job-of bytes) t x ≡ Yes → free (l .model) most-pending (wait-of i) (buffer t x) ≡ Yes
+        {i : Instr} → r ≡ Holds i → may (job-of bytes) t x ≡ Yes → free (l .model) most-pending (wait-of i) (pending t x) ≡ Yes
     unfolding may-execute
     free-by-read {i} e may =
         let j = job-of bytes in
         let few : l .capacity ≤ most-pending = rw (a .laid .capacity) (capacity-most (j .model) (j .capacity) (a .in-range .capacity)) in
         let there : t < length (j .threads) = stands j (a .in-range) t p i (stands-at e) .thread in
-        free-more few (buffer t x) (l .model) (wait-of i) (may-by-read e (buffer t x) ∙ may-of-execute j x t thread there at refl ∙ may)
+        free-more few (pending t x) (l .model) (wait-of i) (may-by-read e (pending t x) ∙ may-of-execute j x t thread there at refl ∙ may)

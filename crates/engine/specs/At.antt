@@ -4,7 +4,7 @@ use mathlib.Core.List.{List}
 use Prim.Native.Nat.{ℕ, _<_}
 use lib.ListN.{length, getD}
 use Rattle.rules.specs.Limits.{most-threads, most-variables, registers-each}
-use Rattle.rules.specs.State.{Pending, buffer}
+use Rattle.rules.specs.State.{Pending}
 use Rattle.rules.specs.State as states
 use Rattle.rules.specs.Job.{Job}
 use Rattle.rules.specs.Step.{may-execute, instruction-at}
@@ -33,7 +33,7 @@ pub record FlushesOf (j : Job) (x : states.State) (m : Model) (vars t : ℕ) (b 
   pub model : m ≡ j .model
   pub variables : vars ≡ length (j .initial)
   pub thread : t < length (j .threads)
-  pub pending : b ≡ buffer t x
+  pub stores : b ≡ states.pending t x
 
 -- the memory with which a job starts
 pub record Memory (j : Job) (mem : List ℕ) : Type 0 where

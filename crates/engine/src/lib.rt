@@ -23,7 +23,7 @@ ghost use Rattle.rules.specs.declared.May.the-variants.{Yes};
 ghost use Rattle.rules.specs.Goal as goals;
 ghost use Rattle.rules.specs.File.{job-of};
 ghost use Rattle.job.specs.Laid.{IsAccepted};
-ghost use Rattle.buffer.specs.Held.{BufferOk, held-buffer};
+ghost use Rattle.buffer.specs.Held.{BufferOk, held-pending};
 ghost use Rattle.state.specs.Held.{StateOk, held};
 ghost use Rattle.state.specs.Parts.{Holds};
 ghost use Rattle.engine.specs.At.{At, ClauseOk, Memory, FlushesOf, may-execute-at};
@@ -61,7 +61,7 @@ pub fn start(job: &[u8], l: Layout) -> State
 fn may_execute(job: &[u8], l: Layout, t: u8, place: u8, own: Buf) -> May
     requires { ⌜ IsAccepted (now job) l ⌝ }
     requires { ⌜ BufferOk own ⌝ }
-    ensures { λ r. ⌜ r ≡ may-execute-at (job-of (now (job .entry))) t place (held-buffer own) ⌝ }
+    ensures { λ r. ⌜ r ≡ may-execute-at (job-of (now (job .entry))) t place (held-pending own) ⌝ }
 {
     let read = job::parts::instruction_at(job, l, t, place);
     let model = l.model;
@@ -149,7 +149,7 @@ fn flushes(model: Model, vars: u8, pending: Buf, t: u8, before: u64) -> u64
     requires { ⌜ t < most-threads ⌝ }
     requires { ⌜ before < 2 ^ (most-threads + most-variables * t) ⌝ }
     ensures { λ r. ⌜
-        ((j : jobs.Job) (x : states.State) → FlushesOf j x model vars t (held-buffer pending) →
+        ((j : jobs.Job) (x : states.State) → FlushesOf j x model vars t (held-pending pending) →
         before ≡ steps.enabled-below j x (most-threads + most-variables * t) → r ≡ steps.enabled-below j x (most-threads + most-variables * (t + 1)))
         ⌝ }
 {
@@ -187,7 +187,7 @@ pub fn enabled(job: &[u8], l: Layout, x: State) -> u64
 // Whether no store is pending.
 fn all_empty(x: State) -> bool
     requires { ⌜ StateOk x ⌝ }
-    ensures { λ r. ⌜ r ≡ goals.every steps.is-empty (held x .buffers) ⌝ }
+    ensures { λ r. ⌜ r ≡ goals.every goals.nothing-pending (held x .buffers) ⌝ }
 {
     let mut t: u8 = 0;
     while t < MOST_THREADS {

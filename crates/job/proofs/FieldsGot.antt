@@ -9,7 +9,7 @@ use borrow.Author.Tests.{eqb-true}
 use lib.Dec.{eqb}
 use lib.ListN.{length, getD}
 use Rattle.reach.specs.ListLaws.{at-getD}
-use Rattle.rules.specs.Limits.{file-version, most-threads, most-variables, most-pending, length-size, head-size, item-size}
+use Rattle.rules.specs.Limits.{first-version, last-version, most-threads, most-variables, most-pending, length-size, head-size, item-size}
 use Rattle.rules.specs.Job.{Job}
 use Rattle.rules.specs.File.{Read, _>>=_, got, fault, times, byte, field, model-of, capacity-of, flag-of, clause-count-of, thread, clause, ended, fields, length-ok, accepted, refused, decoded, decode}
 use Rattle.rules.specs.declared.Model.{Model}
@@ -18,7 +18,7 @@ use Rattle.rules.specs.declared.Instr.{Instr}
 use Rattle.rules.specs.declared.Clause.{Clause}
 use Rattle.job.specs.declared.Starts.{Starts}
 use Rattle.readers.specs.declared.Next.the-variants.{At, Fault}
-use Rattle.readers.specs.Passed.{version-at, model-at, capacity-at, threads-at, variables-at, count-in, vars-in, model-in, passed, listed, then}
+use Rattle.readers.specs.Passed.{version-at, model-at, capacity-at, threads-at, variables-at, count-in, version-in, vars-in, model-in, passed, listed, then}
 use Rattle.readers.specs.Stages.{length-stage, head-stage}
 use Rattle.job.specs.Passed.{answer, answer-of}
 use Rattle.job.specs.Stages.{threads-read, threads-of, rest-stage}
@@ -82,13 +82,13 @@ module _ (bytes : List ℕ) where
   fields-got : (j : Job) (next : ℕ) → fields bytes length-size ≡ got j next → Fields j
   unfolding fields threads-read threads-of
   fields-got j next e =
-      let version = range-then bytes 2 file-version file-version _ version-at j next e in
+      let version = range-then bytes 2 first-version last-version _ version-at j next e in
       let model = field-then bytes 3 model-of _ model-at j next (version .rest) in
       let capacity = field-then bytes 3 _ _ capacity-at j next (model .rest) in
       let count = range-then bytes 3 1 most-threads _ threads-at j next (capacity .rest) in
       let vars = range-then bytes 3 1 most-variables _ variables-at j next (count .rest) in
       let initial = values-then bytes _ (vars-in bytes) head-size j next (vars .rest) in
-      let threads = then-got (times (count-in bytes) (thread bytes (vars-in bytes))) _ (head-size + vars-in bytes) j next (initial .2) in
+      let threads = then-got (times (count-in bytes) (thread bytes (version-in bytes) (vars-in bytes))) _ (head-size + vars-in bytes) j next (initial .2) in
       let goal = goal-got (threads .0) (ap listed (threads .2)) _ (threads .1) j next (threads .3) in
       subst Fields (goal .2)
       (record {

@@ -8,7 +8,7 @@ use native.Mathlib.Omega.{arith}
 use native.Mathlib.Decide.{decLt}
 use lib.Dec.{eqb}
 use lib.ListN.{length}
-use Rattle.rules.specs.Limits.{file-version, most-threads, most-variables, length-size, head-size}
+use Rattle.rules.specs.Limits.{first-version, last-version, most-threads, most-variables, length-size, head-size}
 use Rattle.rules.specs.Job.{Job}
 use Rattle.rules.specs.File.{Read, got, fault, Reader, read-on, _>>=_, times, judged, byte, field, in-range, model-of, flag-of, clause-count-of, clause, ended, fields}
 use Rattle.rules.specs.declared.Clause.{Clause}
@@ -104,7 +104,7 @@ module _ (bytes : List ℕ) where
   fields-passed =
       rw (then-first, then-first, then-first, then-first)
       (passed-first _ _ _ version-at λ version p e.
-      rw (field-got _ _ _ _ _ _ e .behind)
+      rw (field-got _ _ _ _ _ _ e .behind, range-got _ _ _ _ (field-got _ _ _ _ _ _ e .holds) .is)
       (passed-first _ _ _ model-at λ model q f.
       rw (field-got _ _ _ _ _ _ f .behind, field-got _ _ _ _ _ _ f .holds)
       (passed-first _ _ _ capacity-at λ capacity r g.
@@ -121,7 +121,7 @@ module _ (bytes : List ℕ) where
   unfolding head-stage
   head-good p e =
       let version = both-at (length-stage bytes) _ p e .2 in
-      let model = both-at (passed (field bytes 2 (in-range file-version file-version) version-at)) _ p version .2 in
+      let model = both-at (passed (field bytes 2 (in-range first-version last-version) version-at)) _ p version .2 in
       let capacity = both-at (passed (field bytes 3 model-of model-at)) _ p model .2 in
       let count = both-at (capacity-stage bytes) _ p capacity .2 in
       let both = both-at (passed (field bytes 3 (in-range 1 most-threads) threads-at)) _ p count in

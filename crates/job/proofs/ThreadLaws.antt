@@ -13,7 +13,7 @@ use Rattle.rules.specs.File.{got, byte, instruction, thread}
 use Rattle.rules.specs.declared.Instr.{Instr}
 use Rattle.job.specs.declared.Starts.{Starts}
 use Rattle.readers.specs.declared.Next.the-variants.{At}
-use Rattle.readers.specs.Passed.{count-in, vars-in, passed, instruction-in-bytes}
+use Rattle.readers.specs.Passed.{count-in, version-in, vars-in, passed, instruction-in-bytes}
 use Rattle.job.specs.Stages.{threads-read, threads-of}
 use Rattle.job.specs.Laid.{ThreadsGood, StartsLaid}
 use Rattle.readers.proofs.Readers.{listed-got, items-laid, times-none, times-last, times-length, times-item}
@@ -36,10 +36,10 @@ pub record ThreadLaid (bytes : List ℕ) (at : ℕ) (code : List Instr) : Type 0
   pub number : getD bytes at 0 ≡ length code
   pub inside : at + 1 + item-size * length code ≤ length bytes
   pub instructions :
-      (p : ℕ) → p < length code → instruction-in-bytes bytes (vars-in bytes) (length code) (at + 1 + item-size * p) ≡ getElem? code p
+      (p : ℕ) → p < length code → instruction-in-bytes bytes (version-in bytes) (vars-in bytes) (length code) (at + 1 + item-size * p) ≡ getElem? code p
 
 module _ (bytes : List ℕ) where
-  thread-got : (at : ℕ) (code : List Instr) (next : ℕ) → thread bytes (vars-in bytes) at ≡ got code next →
+  thread-got : (at : ℕ) (code : List Instr) (next : ℕ) → thread bytes (version-in bytes) (vars-in bytes) at ≡ got code next →
       (next ≡ at + 1 + item-size * length code) × ThreadLaid bytes at code
   unfolding thread instruction byte
   thread-got at code next e =
@@ -65,7 +65,7 @@ module _ (bytes : List ℕ) where
 
     -- thread t, where reading those before it has come to
     module _ (t at : ℕ) (h : t < count-in bytes) (e : passed (threads-read bytes t) ≡ At at) where
-      there : (next : ℕ) × (thread bytes (vars-in bytes) at ≡ got (getD (threads-of bytes) t []) next)
+      there : (next : ℕ) × (thread bytes (version-in bytes) (vars-in bytes) at ≡ got (getD (threads-of bytes) t []) next)
       unfolding threads-read
       there =
           let code = below-at (threads-of bytes) t (omega (arith, threads-number)) in
@@ -131,6 +131,6 @@ module _ {bytes : List ℕ} {s : Starts} (h : StartsLaid bytes s) where
     place-inside = omega (arith, start-laid t place-there .inside)
 
     pub place-holds :
-        instruction-in-bytes bytes (vars-in bytes) (length (getD (threads-of bytes) t [])) (getD (s .threads) t 0 + 1 + item-size * p)
+        instruction-in-bytes bytes (version-in bytes) (vars-in bytes) (length (getD (threads-of bytes) t [])) (getD (s .threads) t 0 + 1 + item-size * p)
         ≡ getElem? (getD (threads-of bytes) t []) p
     place-holds = start-laid t place-there .instructions p k

@@ -10,7 +10,7 @@ use Rattle.rules.specs.File.{Read, times, field, flag-of, clause-count-of, thre
 use Rattle.rules.specs.declared.Instr.{Instr}
 use Rattle.readers.specs.declared.Next.{Next}
 use Rattle.readers.specs.declared.Next.the-variants.{At, Fault}
-use Rattle.readers.specs.Passed.{count-in, vars-in, passed, listed, then, chain}
+use Rattle.readers.specs.Passed.{count-in, version-in, vars-in, passed, listed, then, chain}
 
 module _ (bytes : List ℕ) where
   -- the initial values, each a field
@@ -19,7 +19,7 @@ module _ (bytes : List ℕ) where
 
   -- the first t threads, behind the initial values
   unfoldable pub threads-read : ℕ → Read (List (List Instr))
-  threads-read t = times t (thread bytes (vars-in bytes)) (head-size + vars-in bytes)
+  threads-read t = times t (thread bytes (version-in bytes) (vars-in bytes)) (head-size + vars-in bytes)
 
   -- all of them; none, where they are refused
   unfoldable pub threads-of : List (List Instr)

@@ -75,7 +75,7 @@ fn behind_head(job: &[u8]) -> Next
     if job.len() < start {
         return Next::Fault(NOT_WHOLE, job.len());
     }
-    match readers::threads(job, vars, job[THREADS_AT], start) {
+    match readers::threads(job, job[VERSION_AT], vars, job[THREADS_AT], start) {
         Next::At(_) => goal::goal(job, threads::starts(job)),
         Next::Fault(number, offset) => Next::Fault(number, offset),
     }

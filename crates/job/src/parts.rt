@@ -4,6 +4,7 @@ use crate::PlaceRead;
 use crate::goal;
 use crate::threads;
 use readers::VARIABLES_AT;
+use readers::VERSION_AT;
 use rules::HEAD_SIZE;
 use rules::ITEM_SIZE;
 use tables::ClauseRead;
@@ -45,7 +46,7 @@ pub fn instruction_at(job: &[u8], l: Layout, t: u8, p: u8) -> PlaceRead
         return PlaceRead::Ended;
     }
     let at = threads::instruction_start(job, l.starts, t, p);
-    at_place(readers::instruction_from(job, job[VARIABLES_AT], n, at))
+    at_place(readers::instruction_from(job, job[VERSION_AT], job[VARIABLES_AT], n, at))
 }
 
 pub fn flag(job: &[u8], l: Layout) -> bool

@@ -19,6 +19,8 @@ pub fn control_of(i: Instr) -> Control
         Instr::Xchg(_, _) => Control::On,
         Instr::Jeq(r, p, k) => Control::ToIf(r, k, p),
         Instr::Jmp(p) => Control::To(p),
+        Instr::Cmpx(_, _, _) => Control::On,
+        Instr::Wfence => Control::On,
     }
 }
 
@@ -35,6 +37,8 @@ pub fn wait_of(i: Instr) -> Wait
         Instr::Xchg(_, _) => Wait::UntilEmpty,
         Instr::Jeq(_, _, _) => Wait::Never,
         Instr::Jmp(_) => Wait::Never,
+        Instr::Cmpx(_, _, _) => Wait::UntilEmpty,
+        Instr::Wfence => Wait::Never,
     }
 }
 
@@ -51,5 +55,7 @@ pub fn role_of(i: Instr) -> Role
         Instr::Xchg(_, _) => Role::Fences,
         Instr::Jeq(_, _, _) => Role::Other,
         Instr::Jmp(_) => Role::Other,
+        Instr::Cmpx(_, _, _) => Role::Fences,
+        Instr::Wfence => Role::Other,
     }
 }

@@ -2,13 +2,13 @@
 use mathlib.Core.Path.{_≡_}
 use mathlib.Core.Bool.{true}
 use mathlib.Core.List.{List}
-use Prim.Native.Nat.{ℕ, _≤_}
+use Prim.Native.Nat.{ℕ, _≤_, _<_}
 use native.Mathlib.Omega.{arith}
 use borrow.Author.Tests.{lt-ltb, ltb-true}
 use lib.ListN.{length}
-use Rattle.rules.specs.Limits.{most-variables}
-use Rattle.rules.specs.State.{Pending}
-use Rattle.rules.specs.Step.{has-room, free}
+use Rattle.rules.specs.Limits.{most-variables, group-unit}
+use Rattle.rules.specs.State.{Pending, buffer}
+use Rattle.rules.specs.Step.{joined-group, has-room, free}
 use Rattle.rules.specs.MayLaws.{needs-yes}
 use Rattle.rules.specs.declared.May.the-variants.{Yes}
 use Rattle.rules.specs.declared.Reason.the-variants.{BufferFull}
@@ -18,6 +18,8 @@ use Rattle.rules.specs.declared.Model.{Model}
 use Rattle.rules.specs.declared.Model.the-variants.{Sc, Tso, Pso}
 use Rattle.rules.specs.declared.Instr.{Instr}
 use Rattle.rules.specs.declared.Control.{Control}
+use Rattle.state.specs.Held.{held}
+use Rattle.state.specs.declared.State.{State}
 use Rattle.rules.specs.declared.Wait.{Wait}
 use Rattle.rules.specs.declared.Wait.the-variants.{Never, ForRoom, UntilEmpty}
 
@@ -27,6 +29,10 @@ pub record InstrOk (i : Instr) : Type 0 where
   pub n : ℕ
   pub few : vars ≤ most-variables
   pub fits : InstrIn vars n i
+
+-- a store that joins under PSO has its group's number in the upper half of a byte
+abbrev pub GroupFits : State → ℕ → Type 0
+GroupFits s t = joined-group (buffer t (held s)) < group-unit
 
 -- the control of such an instruction
 abbrev pub ControlOk : Control → Type 0

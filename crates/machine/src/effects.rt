@@ -8,16 +8,16 @@ ghost use mathlib.Core.Path.{_≡_};
 ghost use mathlib.Core.Bool.{true};
 ghost use Prim.Native.Nat.{_<_};
 ghost use Rattle.rules.specs.Limits.{registers-each, most-variables, most-pending};
-ghost use Rattle.rules.specs.State.{buffer};
+ghost use Rattle.rules.specs.State.{pending};
 ghost use Rattle.rules.specs.Kinds.{wait-of};
 ghost use Rattle.rules.specs.Step as rules;
 ghost use Rattle.rules.specs.declared.May.the-variants.{Yes};
 ghost use Rattle.rules.specs.Sound.{SourceIn};
 ghost use Rattle.rules.specs.declared.Model.{Model};
-ghost use Rattle.rules.specs.declared.Instr.the-variants.{Add, Load, Xchg};
+ghost use Rattle.rules.specs.declared.Instr.the-variants.{Add, Load, Xchg, Cmpx};
 ghost use Rattle.state.specs.Held.{held};
 ghost use Rattle.state.specs.Parts.{At, Runs, Holds};
-ghost use Rattle.machine.specs.Operands.{ControlOk, InstrOk};
+ghost use Rattle.machine.specs.Operands.{ControlOk, InstrOk, GroupFits};
 
 // Register r becomes r + k; 255 plus 1 is 0.
 fn add(x: State, t: u8, r: u8, k: u8) -> State
@@ -52,11 +52,12 @@ fn carried(x: State, t: u8, a: Source) -> u8
     }
 }
 
-// A store of k to v, which has room: under SC straight to memory, under TSO behind the last, under PSO by its variable.
+// A store of k to v, which has room: under SC straight to memory, under TSO behind the last, under PSO by its group and variable.
 fn stored(m: Model, x: State, t: u8, v: u8, k: u8) -> State
     requires { ⌜ At x t ⌝ }
     requires { ⌜ v < most-variables ⌝ }
-    requires { ⌜ rules.has-room m most-pending (buffer t (held x)) ≡ true ⌝ }
+    requires { ⌜ rules.has-room m most-pending (pending t (held x)) ≡ true ⌝ }
+    requires { ⌜ GroupFits x t ⌝ }
     ensures { λ y. ⌜ Holds y (rules.stored m t v k (held x)) ⌝ }
 {
     match m {
@@ -84,11 +85,43 @@ fn xchg(x: State, t: u8, r: u8, v: u8) -> State
     state::with_register(y, t, r, old)
 }
 
+// Memory's v becomes k if it equals register r, and r takes the old value either way.
+fn cmpx(x: State, t: u8, r: u8, v: u8, k: u8) -> State
+    requires { ⌜ At x t ⌝ }
+    requires { ⌜ r < registers-each ⌝ }
+    requires { ⌜ v < most-variables ⌝ }
+    ensures { λ y. ⌜ ((m : Model) → Holds y (rules.changed m t (Cmpx r v k) (held x))) ⌝ }
+{
+    let old = state::variable(x, v);
+    let own = state::register(x, t, r);
+    if old == own {
+        let written = state::with_variable(x, v, k);
+        return state::with_register(written, t, r, old);
+    }
+    state::with_register(x, t, r, old)
+}
+
+// A WFENCE: under PSO it stands after the newest store, under SC and TSO it does nothing.
+fn wfence(m: Model, x: State, t: u8) -> State
+    requires { ⌜ At x t ⌝ }
+    ensures { λ y. ⌜ Holds y (rules.grouped m t (held x)) ⌝ }
+{
+    match m {
+        Model::Sc => x,
+        Model::Tso => x,
+        Model::Pso => {
+            let marked = buffer::marked(state::buffer(x, t));
+            state::with_buffer(x, t, marked)
+        }
+    }
+}
+
 // What instruction i of thread t changes.
 pub fn changed(i: Instr, m: Model, x: State, t: u8) -> State
     requires { ⌜ At x t ⌝ }
     requires { ⌜ InstrOk i ⌝ }
-    requires { ⌜ rules.free m most-pending (wait-of i) (buffer t (held x)) ≡ Yes ⌝ }
+    requires { ⌜ rules.free m most-pending (wait-of i) (pending t (held x)) ≡ Yes ⌝ }
+    requires { ⌜ GroupFits x t ⌝ }
     ensures { λ y. ⌜ Holds y (rules.changed m t i (held x)) ⌝ }
 {
     match i {
@@ -100,6 +133,8 @@ pub fn changed(i: Instr, m: Model, x: State, t: u8) -> State
         Instr::Xchg(r, v) => xchg(x, t, r, v),
         Instr::Jeq(_, _, _) => x,
         Instr::Jmp(_) => x,
+        Instr::Cmpx(r, v, k) => cmpx(x, t, r, v, k),
+        Instr::Wfence => wfence(m, x, t),
     }
 }
 

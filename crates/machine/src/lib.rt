@@ -8,14 +8,14 @@ ghost use mathlib.Core.Path.{_≡_};
 ghost use mathlib.Core.Option.{some};
 ghost use Prim.Native.Nat.{_<_};
 ghost use Rattle.rules.specs.Limits.{most-variables, most-pending};
-ghost use Rattle.rules.specs.State.{buffer};
+ghost use Rattle.rules.specs.State.{pending};
 ghost use Rattle.rules.specs.Kinds.{wait-of};
 ghost use Rattle.rules.specs.Step as rules;
 ghost use Rattle.rules.specs.declared.May.the-variants.{Yes};
-ghost use Rattle.buffer.specs.Held.{held-buffer, BufferOk};
+ghost use Rattle.buffer.specs.Held.{held-pending, BufferOk};
 ghost use Rattle.state.specs.Held.{held};
 ghost use Rattle.state.specs.Parts.{At, Runs, Holds};
-ghost use Rattle.machine.specs.Operands.{InstrOk};
+ghost use Rattle.machine.specs.Operands.{InstrOk, GroupFits};
 
 mod effects;
 mod waits;
@@ -23,7 +23,7 @@ mod waits;
 // Whether instruction i of a thread whose buffer is b may be taken, and why not: no state is made.
 pub fn may_execute(i: Instr, m: Model, capacity: u8, b: Buf) -> May
     requires { ⌜ BufferOk b ⌝ }
-    ensures { λ r. ⌜ r ≡ rules.may-execute m capacity (some i) (held-buffer b) ⌝ }
+    ensures { λ r. ⌜ r ≡ rules.may-execute m capacity (some i) (held-pending b) ⌝ }
 {
     waits::free(kinds::wait_of(i), m, capacity, b)
 }
@@ -32,7 +32,8 @@ pub fn may_execute(i: Instr, m: Model, capacity: u8, b: Buf) -> May
 pub fn execute(i: Instr, m: Model, x: State, t: u8) -> State
     requires { ⌜ Runs x t ⌝ }
     requires { ⌜ InstrOk i ⌝ }
-    requires { ⌜ rules.free m most-pending (wait-of i) (buffer t (held x)) ≡ Yes ⌝ }
+    requires { ⌜ rules.free m most-pending (wait-of i) (pending t (held x)) ≡ Yes ⌝ }
+    requires { ⌜ GroupFits x t ⌝ }
     ensures { λ y. ⌜ Holds y (rules.executed m t i (held x)) ⌝ }
 {
     let place = effects::place_after(kinds::control_of(i), x, t);

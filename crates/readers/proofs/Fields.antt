@@ -146,10 +146,10 @@ range-then bytes number low high f at b next e =
     record { there = t .there; least = omega (arith, n .is, n .least); most = omega (arith, n .is, n .most); rest = subst (λ k. f k (at + 1) ≡ got b next) (n .is) (t .rest) }
 
 -- n, and then as many instructions
-pub thread-passed : (bytes : List ℕ) (vars at : ℕ) →
-    passed (thread bytes vars at)
-    ≡ chain (passed (field bytes 4 (in-range 0 longest-thread) at)) (λ p. passed (times (getD bytes at 0) (instruction bytes vars (getD bytes at 0)) p))
+pub thread-passed : (bytes : List ℕ) (version vars at : ℕ) →
+    passed (thread bytes version vars at)
+    ≡ chain (passed (field bytes 4 (in-range 0 longest-thread) at)) (λ p. passed (times (getD bytes at 0) (instruction bytes version vars (getD bytes at 0)) p))
 unfolding thread
-thread-passed bytes vars at =
+thread-passed bytes version vars at =
     passed-then (field bytes 4 (in-range 0 longest-thread)) _ _ at
-    (λ n p e. ap (λ k. passed (times k (instruction bytes vars k) p)) (range-got 0 longest-thread _ n (field-got bytes 4 _ at n p e .holds) .is))
+    (λ n p e. ap (λ k. passed (times k (instruction bytes version vars k) p)) (range-got 0 longest-thread _ n (field-got bytes 4 _ at n p e .holds) .is))

@@ -30,7 +30,10 @@ threads-at = capacity-at + 1
 abbrev pub variables-at : ℕ
 variables-at = threads-at + 1
 
--- T and V
+-- the version, T and V
+abbrev pub version-in : List ℕ → ℕ
+version-in bytes = getD bytes version-at 0
+
 abbrev pub count-in : List ℕ → ℕ
 count-in bytes = getD bytes threads-at 0
 
@@ -53,9 +56,9 @@ pub record ItemAt (bytes : List ℕ) (at : ℕ) (i : Item) : Type 0 where
   pub c : i .c ≡ getD bytes (at + 3) 0
 
 -- what they are
-abbrev pub instruction-in-bytes : List ℕ → (vars n at : ℕ) → Option Instr
-instruction-in-bytes bytes vars n at =
-    instruction-of vars n (getD bytes at 0) (getD bytes (at + 1) 0) (getD bytes (at + 2) 0) (getD bytes (at + 3) 0)
+abbrev pub instruction-in-bytes : List ℕ → (version vars n at : ℕ) → Option Instr
+instruction-in-bytes bytes version vars n at =
+    instruction-of version vars n (getD bytes at 0) (getD bytes (at + 1) 0) (getD bytes (at + 2) 0) (getD bytes (at + 3) 0)
 
 -- where a reader has come to, its value forgotten
 abbrev pub passed : {A : Type 0} → Read A → Next

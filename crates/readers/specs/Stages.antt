@@ -3,7 +3,7 @@ use mathlib.Core.Bool.{cond}
 use mathlib.Core.List.{List}
 use mathlib.Core.Option.{Option, none, some}
 use Prim.Native.Nat.{ℕ}
-use Rattle.rules.specs.Limits.{file-version, most-threads, most-variables}
+use Rattle.rules.specs.Limits.{first-version, last-version, most-threads, most-variables}
 use Rattle.rules.specs.File.{field, in-range, model-of, capacity-of, length-ok}
 use Rattle.rules.specs.declared.Model.{Model}
 use Rattle.readers.specs.declared.Next.{Next}
@@ -26,7 +26,7 @@ module _ (bytes : List ℕ) where
   -- version, model, C, T and V, each where it stands
   unfoldable pub head-stage : Next
   head-stage =
-      then (passed (field bytes 2 (in-range file-version file-version) version-at))
+      then (passed (field bytes 2 (in-range first-version last-version) version-at))
       (then (passed (field bytes 3 model-of model-at))
       (then capacity-stage
       (then (passed (field bytes 3 (in-range 1 most-threads) threads-at))

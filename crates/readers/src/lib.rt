@@ -1,7 +1,8 @@
 // The readers of the job file, up to the end of its threads, each from an offset: where the next item begins, or the first fault.
 use rules::BYTE_VALUES;
-use rules::FILE_VERSION;
+use rules::FIRST_VERSION;
 use rules::ITEM_SIZE;
+use rules::LAST_VERSION;
 use rules::LENGTH_SIZE;
 use rules::LONGEST_FILE;
 use rules::LONGEST_THREAD;
@@ -26,7 +27,7 @@ ghost use Rattle.readers.specs.Stages.{length-stage, capacity-stage, hea
 // "fewer than 3 bytes, more than 597, or length wrong"; request 2: "the longest file becomes 1,109 bytes"
 pub const LENGTH_WRONG: u8 = 1;
 
-// "version not 1"
+// "version not 1"; request 7: "refusal 2 now means neither version"
 pub const VERSION_WRONG: u8 = 2;
 
 // "model, C, T or V out of range"
@@ -156,7 +157,7 @@ fn capacity(job: &[u8]) -> Next
 pub fn head_fields(job: &[u8]) -> Next
     ensures { λ r. ⌜ r ≡ head-stage (now (job .entry)) ⌝ }
 {
-    let version = field(job, VERSION_AT, VERSION_WRONG, FILE_VERSION, FILE_VERSION);
+    let version = field(job, VERSION_AT, VERSION_WRONG, FIRST_VERSION, LAST_VERSION);
     let model = field(job, MODEL_AT, HEAD_OUT_OF_RANGE, 0, LAST_MODEL);
     let pending = capacity(job);
     let threads = field(job, THREADS_AT, HEAD_OUT_OF_RANGE, 1, MOST_THREADS);
@@ -190,12 +191,12 @@ pub fn item_at(job: &[u8], at: usize) -> Item
 }
 
 // The bytes from `at` as an instruction.
-pub fn instruction_from(job: &[u8], vars: u8, n: u8, at: usize) -> InstrRead
+pub fn instruction_from(job: &[u8], version: u8, vars: u8, n: u8, at: usize) -> InstrRead
     requires { ⌜ at + item-size ≤ length (now job) ⌝ }
-    ensures { λ r. ⌜ instr-of r ≡ instruction-in-bytes (now (job .entry)) vars n at ⌝ }
+    ensures { λ r. ⌜ instr-of r ≡ instruction-in-bytes (now (job .entry)) version vars n at ⌝ }
 {
     let i = item_at(job, at);
-    tables::instruction(vars, n, i.op, i.a, i.b, i.c)
+    tables::instruction(version, vars, n, i.op, i.a, i.b, i.c)
 }
 
 // Whether the bytes of an instruction or a clause are there from `at`.
@@ -211,12 +212,12 @@ pub fn item_there(job: &[u8], at: usize) -> bool
     true
 }
 
-fn instruction(job: &[u8], vars: u8, n: u8, at: usize) -> Next
-    ensures { λ r. ⌜ r ≡ passed (file.instruction (now (job .entry)) vars n at) ⌝ }
+fn instruction(job: &[u8], version: u8, vars: u8, n: u8, at: usize) -> Next
+    ensures { λ r. ⌜ r ≡ passed (file.instruction (now (job .entry)) version vars n at) ⌝ }
 {
     if item_there(job, at) {
         let next = at + ITEM_SIZE;
-        match instruction_from(job, vars, n, at) {
+        match instruction_from(job, version, vars, n, at) {
             InstrRead::Good(_) => Next::At(next),
             InstrRead::Bad => Next::Fault(THREAD_BAD, at),
         }
@@ -225,13 +226,13 @@ fn instruction(job: &[u8], vars: u8, n: u8, at: usize) -> Next
     }
 }
 
-fn instructions(job: &[u8], vars: u8, n: u8, start: usize) -> Next
-    ensures { λ r. ⌜ r ≡ passed (file.times n (file.instruction (now (job .entry)) vars n) start) ⌝ }
+fn instructions(job: &[u8], version: u8, vars: u8, n: u8, start: usize) -> Next
+    ensures { λ r. ⌜ r ≡ passed (file.times n (file.instruction (now (job .entry)) version vars n) start) ⌝ }
 {
     let mut at = start;
     let mut i: u8 = 0;
     while i < n {
-        match instruction(job, vars, n, at) {
+        match instruction(job, version, vars, n, at) {
             Next::At(next) => {
                 at = next;
             }
@@ -244,22 +245,22 @@ fn instructions(job: &[u8], vars: u8, n: u8, start: usize) -> Next
     Next::At(at)
 }
 
-fn thread(job: &[u8], vars: u8, at: usize) -> Next
-    ensures { λ r. ⌜ r ≡ passed (file.thread (now (job .entry)) vars at) ⌝ }
+fn thread(job: &[u8], version: u8, vars: u8, at: usize) -> Next
+    ensures { λ r. ⌜ r ≡ passed (file.thread (now (job .entry)) version vars at) ⌝ }
 {
     match field(job, at, THREAD_BAD, 0, LONGEST_THREAD) {
-        Next::At(next) => instructions(job, vars, job[at], next),
+        Next::At(next) => instructions(job, version, vars, job[at], next),
         Next::Fault(number, offset) => Next::Fault(number, offset),
     }
 }
 
-pub fn threads(job: &[u8], vars: u8, count: u8, start: usize) -> Next
-    ensures { λ r. ⌜ r ≡ passed (file.times count (file.thread (now (job .entry)) vars) start) ⌝ }
+pub fn threads(job: &[u8], version: u8, vars: u8, count: u8, start: usize) -> Next
+    ensures { λ r. ⌜ r ≡ passed (file.times count (file.thread (now (job .entry)) version vars) start) ⌝ }
 {
     let mut at = start;
     let mut t: u8 = 0;
     while t < count {
-        match thread(job, vars, at) {
+        match thread(job, version, vars, at) {
             Next::At(next) => {
                 at = next;
             }

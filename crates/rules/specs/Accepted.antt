@@ -125,9 +125,9 @@ capacity-in Sc k = simp row (omega tests)
 capacity-in Tso k = simp row (omega tests)
 capacity-in Pso k = simp row (omega tests)
 
-instruction-in : (vars n a b c : ℕ) → c < byte-values → (op : ℕ) → IfSome (InstrIn vars n) (instruction-of vars n op a b c)
+instruction-in : (version vars n a b c : ℕ) → c < byte-values → (op : ℕ) → IfSome (InstrIn vars n) (instruction-of version vars n op a b c)
 unfolding instruction-of register-ok zero-ok
-instruction-in vars n a b c h = by-rows 10 _ (simp row (omega tests))
+instruction-in version vars n a b c h = by-rows 12 _ (simp row (omega tests))
 
 clause-in : (vars : ℕ) (threads : List (List Instr)) (a b c : ℕ) → c < byte-values →
     (kind : ℕ) → IfSome (ClauseIn vars threads) (clause-of vars (length threads) (length (getD threads a [])) kind a b c)
@@ -157,12 +157,12 @@ module _ (bytes : List ℕ) (small : All (λ k. k < byte-values) bytes) where
   range-gives : (number low high : ℕ) → Listed number → Gives (λ k. (low ≤ k) × (k ≤ high)) (field bytes number (in-range low high))
   range-gives number low high n = field-gives number n λ k h. range-in low high k
 
-  thread-gives : (vars : ℕ) → Gives (ThreadIn vars) (thread bytes vars)
+  thread-gives : (version vars : ℕ) → Gives (ThreadIn vars) (thread bytes version vars)
   unfolding thread instruction
-  thread-gives vars =
+  thread-gives version vars =
       then-gives (range-gives 4 _ _ (listed 4 tt)) λ n most.
       gives-map (λ code h. (omega arith, rw (h .0) (h .1)))
-      (times-gives n (item-gives bytes item-size 4 (listed 4 tt) λ at. instruction-in vars n _ _ _ (byte-in (at + 3)) (byte bytes at)))
+      (times-gives n (item-gives bytes item-size 4 (listed 4 tt) λ at. instruction-in version vars n _ _ _ (byte-in (at + 3)) (byte bytes at)))
 
   fields-give : Gives JobIn (fields bytes)
   unfolding fields clause
@@ -173,7 +173,7 @@ module _ (bytes : List ℕ) (small : All (λ k. k < byte-values) bytes) where
       then-gives (range-gives 3 _ _ (listed 3 tt)) λ count count-is.
       then-gives (range-gives 3 _ _ (listed 3 tt)) λ vars vars-is.
       then-gives (times-gives vars (field-gives 6 (listed 6 tt) value-in)) λ initial initial-is.
-      then-gives (times-gives count (thread-gives vars)) λ threads threads-are.
+      then-gives (times-gives count (thread-gives version vars)) λ threads threads-are.
       then-gives (field-gives 5 (listed 5 tt) λ k h. anything _) λ flag _.
       then-gives (range-gives 5 _ _ (listed 5 tt)) λ K K-is.
       then-gives

@@ -7,7 +7,7 @@ use Prim.Native.Nat.{ℕ, _+_, _≤_, _<_}
 use borrow.Author.Tests.{le-leb, lt-leb}
 use lib.ListN.{length}
 use Rattle.reach.specs.Lists.{All}
-use Rattle.rules.specs.Limits.{most-threads, most-variables, byte-values, file-version, length-size}
+use Rattle.rules.specs.Limits.{most-threads, most-variables, byte-values, first-version, last-version, length-size}
 use Rattle.rules.specs.Job.{Job}
 use Rattle.rules.specs.File.{got, Reader, read-on, _>>=_, done, times, judged, byte, item, field, in-range, model-of, capacity-of, register-ok, zero-ok}
 use Rattle.rules.specs.File.{instruction-of, instruction, thread, flag-of, clause-count-of, fields, length-ok, accepted, refused, decoded, decode}
@@ -59,13 +59,13 @@ module _ (bytes : List ℕ) where
 
 -- P12 is such a file: item by item it is read up to its goal, at 27
 p12-reads :
-    (field p12 2 (in-range file-version file-version) 2 ≡ got 1 3)
+    (field p12 2 (in-range first-version last-version) 2 ≡ got 1 3)
     × (field p12 3 model-of 3 ≡ got Tso 4)
     × (field p12 3 (capacity-of Tso) 4 ≡ got 1 5)
     × (field p12 3 (in-range 1 most-threads) 5 ≡ got 2 6)
     × (field p12 3 (in-range 1 most-variables) 6 ≡ got 2 7)
     × (times 2 (field p12 6 some) 7 ≡ got (0 ∷ 0 ∷ []) 9)
-    × (times 2 (thread p12 2) 9 ≡ got ((Store (Constant 1) 0 ∷ Load 0 1 ∷ []) ∷ (Store (Constant 1) 1 ∷ Load 0 0 ∷ []) ∷ []) 27)
+    × (times 2 (thread p12 1 2) 9 ≡ got ((Store (Constant 1) 0 ∷ Load 0 1 ∷ []) ∷ (Store (Constant 1) 1 ∷ Load 0 0 ∷ []) ∷ []) 27)
 unfolding p12 read-on _>>=_ done times judged byte item field in-range model-of capacity-of register-ok zero-ok instruction-of instruction thread
 p12-reads = (refl, refl, refl, refl, refl, refl, refl)
 

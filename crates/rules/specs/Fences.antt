@@ -1,4 +1,4 @@
--- The fence check: 01, "Replay and fence check", and 02, request 4.
+-- The fence check: 01, "Replay and fence check", and 02, requests 4 and 7.
 use mathlib.Core.Path.{_≡_}
 use mathlib.Core.Logic.{_⊎_}
 use mathlib.Core.List.{List, [], _∷_}
@@ -38,7 +38,7 @@ role-at code p = elim (getElem? code p) [ none ↦ Other | some i ↦ role-of i 
 abbrev pub Move : List Instr → ℕ → ℕ → Type 0
 Move code p q = q ∈ successors code p
 
--- what a walk may pass between its ends: a FENCE or XCHG only if it may pass anything
+-- what a walk may pass between its ends: a FENCE, an XCHG or, by request 7, a CMPX only if it may pass anything
 abbrev pub Passes : Passing → Role → Type 0
 Passes by r = r ≡ Fences → by ≡ Anything
 
@@ -51,7 +51,7 @@ Walk by code p (m ∷ between) q = Move code p m × Passes by (role-at code m) �
 abbrev pub Leads : Passing → List Instr → ℕ → ℕ → Type 0
 Leads by code p q = (between : List ℕ) × Walk by code p between q
 
--- 01's own open pair: "a walk of one or more moves leads from store to load with no FENCE or XCHG strictly between"
+-- 01's own open pair: "a walk of one or more moves leads from store to load with no FENCE or XCHG strictly between"; request 7: "CMPX counts as XCHG"
 pub record Unfenced (code : List Instr) (s l : ℕ) : Type 0 where
   pub store : role-at code s ≡ Stores
   pub load : role-at code l ≡ Loads

@@ -1,18 +1,18 @@
--- The job file, and the refusals in their order: 01, "Job file" and "Refusal numbers and their order".
+-- The job file, and the refusals in their order: 01, "Job file" and "Refusal numbers and their order", and request 7.
 use mathlib.Core.Bool.{Bool, true, false, cond, _&&_}
-use mathlib.Core.List.{List, [], _∷_}
+use mathlib.Core.List.{List, [], _∷_, _++_}
 use mathlib.Core.Option.{Option, none, some}
 use Prim.Native.Nat.{ℕ, zero, suc, _+_, _*_}
 use lib.Dec.{eqb, ltb, leb}
 use lib.ListN.{length, getD}
-use Rattle.rules.specs.Limits.{most-threads, most-variables, registers-each, longest-thread, most-pending, fewest-clauses, most-clauses, shortest-file, longest-file, byte-values, file-version, length-size, item-size}
+use Rattle.rules.specs.Limits.{most-threads, most-variables, registers-each, longest-thread, most-pending, fewest-clauses, most-clauses, shortest-file, longest-file, byte-values, first-version, last-version, second-version, length-size, item-size}
 use Rattle.rules.specs.Job.{Job}
 use Rattle.rules.specs.Step.{given}
 use Rattle.rules.specs.declared.Model.{Model}
 use Rattle.rules.specs.declared.Model.the-variants.{Sc, Tso, Pso}
 use Rattle.rules.specs.declared.Source.the-variants.{Register, Constant}
 use Rattle.rules.specs.declared.Instr.{Instr}
-use Rattle.rules.specs.declared.Instr.the-variants.{Set, Add, Load, Store, Fence, Xchg, Jeq, Jmp}
+use Rattle.rules.specs.declared.Instr.the-variants.{Set, Add, Load, Store, Fence, Xchg, Jeq, Jmp, Cmpx, Wfence}
 use Rattle.rules.specs.declared.Clause.{Clause}
 use Rattle.rules.specs.declared.Clause.the-variants.{PlaceIs, RegisterIs, MemoryIs}
 
@@ -68,11 +68,10 @@ register-ok r = ltb r registers-each
 unfoldable pub zero-ok : ℕ → Bool
 zero-ok k = eqb k 0
 
--- the table of operations by number. "Nine operation numbers have a meaning; each other byte, 0 included, is refused."
-unfoldable pub instruction-of : (vars n op a b c : ℕ) → Option Instr
-instruction-of vars n op a b c =
-    getD
-    (none
+-- the table of operations, from number 0 on: "Nine operation numbers have a meaning"
+abbrev pub first-operations : (vars n a b c : ℕ) → List (Option Instr)
+first-operations vars n a b c =
+    none
     ∷ given (register-ok a && zero-ok b) (Set a c)
     ∷ given (register-ok a && zero-ok b) (Add a c)
     ∷ given (register-ok a && ltb b vars && zero-ok c) (Load a b)
@@ -82,8 +81,22 @@ instruction-of vars n op a b c =
     ∷ given (register-ok a && ltb b vars && zero-ok c) (Xchg a b)
     ∷ given (register-ok a && leb b n) (Jeq a b c)
     ∷ given (zero-ok a && leb b n && zero-ok c) (Jmp b)
+    ∷ []
+
+-- request 7: "Job version 2 adds two operations"; "In a version 1 file operations 10 and 11 are refused by 4 as before."
+unfoldable pub from-second : ℕ → Bool
+from-second version = leb second-version version
+
+abbrev pub operations : (version vars n a b c : ℕ) → List (Option Instr)
+operations version vars n a b c =
+    first-operations vars n a b c
+    ++ (given (from-second version && register-ok a && ltb b vars) (Cmpx a b c)
+    ∷ given (from-second version && zero-ok a && zero-ok b && zero-ok c) Wfence
     ∷ [])
-    op none
+
+-- "each other byte, 0 included, is refused"
+unfoldable pub instruction-of : (version vars n op a b c : ℕ) → Option Instr
+instruction-of version vars n op a b c = getD (operations version vars n a b c) op none
 
 -- the flag: "0 any buffers, 1 all buffers empty"
 unfoldable pub flag-of : ℕ → Option Bool
@@ -119,12 +132,12 @@ module _ (bytes : List ℕ) where
   unfoldable pub field : {A : Type 0} → (number : ℕ) → (ℕ → Option A) → Reader A
   field number value = item 1 number (λ at. value (byte at))
 
-  unfoldable pub instruction : (vars n : ℕ) → Reader Instr
-  instruction vars n = item item-size 4 (λ at. instruction-of vars n (byte at) (byte (at + 1)) (byte (at + 2)) (byte (at + 3)))
+  unfoldable pub instruction : (version vars n : ℕ) → Reader Instr
+  instruction version vars n = item item-size 4 (λ at. instruction-of version vars n (byte at) (byte (at + 1)) (byte (at + 2)) (byte (at + 3)))
 
   -- "per thread: n, then instructions"
-  unfoldable pub thread : (vars : ℕ) → Reader (List Instr)
-  thread vars = field 4 (in-range 0 longest-thread) >>= λ n. times n (instruction vars n)
+  unfoldable pub thread : (version vars : ℕ) → Reader (List Instr)
+  thread version vars = field 4 (in-range 0 longest-thread) >>= λ n. times n (instruction version vars n)
 
   -- a clause of kind 1 asks for the length of its thread: that of thread a, 0 if there is no such thread
   unfoldable pub clause : (vars : ℕ) → List (List Instr) → Reader Clause
@@ -137,17 +150,16 @@ module _ (bytes : List ℕ) where
   unfoldable pub ended : {A : Type 0} → A → Reader A
   ended a at = cond (eqb at (length bytes)) (got a at) (fault 6 at)
 
-  -- the fields in their order, from the version on
-  unfoldable pub fields : Reader Job
-  fields =
-      field 2 (in-range file-version file-version) >>= λ version.
+  -- the fields in their order: those behind the version, and from the version on
+  abbrev pub behind-version : (version : ℕ) → Reader Job
+  behind-version version =
       field 3 model-of >>= λ model.
       field 3 (capacity-of model) >>= λ capacity.
       field 3 (in-range 1 most-threads) >>= λ count.
       field 3 (in-range 1 most-variables) >>= λ vars.
       -- "initial values, each a field | any": no value is refused, only one that is not there
       times vars (field 6 some) >>= λ initial.
-      times count (thread vars) >>= λ threads.
+      times count (thread version vars) >>= λ threads.
       field 5 flag-of >>= λ flag.
       field 5 clause-count-of >>= λ K.
       times K (clause vars threads) >>= λ clauses.
@@ -161,6 +173,9 @@ module _ (bytes : List ℕ) where
         all-empty = flag;
         clauses = clauses;
       })
+
+  unfoldable pub fields : Reader Job
+  fields = field 2 (in-range first-version last-version) >>= behind-version
 
   -- "fewer than 3 bytes, more than 597, or length wrong", by request 2 more than 1,109; the length is the "number of bytes that follow", big-endian
   unfoldable pub length-ok : Bool

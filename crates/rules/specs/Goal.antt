@@ -2,7 +2,7 @@
 use mathlib.Core.Bool.{Bool, true, not, _&&_, _||_}
 use mathlib.Core.List.{List, [], _∷_}
 use lib.Dec.{eqb}
-use Rattle.rules.specs.State.{State, place, register, variable}
+use Rattle.rules.specs.State.{Buffer, State, place, register, variable}
 use Rattle.rules.specs.Job.{Job}
 use Rattle.rules.specs.Step.{is-empty}
 use Rattle.rules.specs.declared.Clause.{Clause}
@@ -19,5 +19,8 @@ clause-holds x (RegisterIs t r k) = eqb (register t r x) k
 clause-holds x (MemoryIs v k) = eqb (variable v x) k
 
 -- "0 any buffers, 1 all buffers empty"
+abbrev pub nothing-pending : Buffer → Bool
+nothing-pending b = is-empty (b .pending)
+
 unfoldable pub goal : Job → State → Bool
-goal j x = (not (j .all-empty) || every is-empty (x .buffers)) && every (clause-holds x) (j .clauses)
+goal j x = (not (j .all-empty) || every nothing-pending (x .buffers)) && every (clause-holds x) (j .clauses)

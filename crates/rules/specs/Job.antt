@@ -1,10 +1,10 @@
 -- An accepted job, and the state that it starts in.
 use mathlib.Core.Bool.{Bool}
-use mathlib.Core.List.{List, [], _++_}
+use mathlib.Core.List.{List, _++_}
 use Prim.Native.Nat.{ℕ, _-_}
 use lib.ListN.{length, replicate}
 use Rattle.rules.specs.Limits.{most-threads, most-variables, all-registers}
-use Rattle.rules.specs.State.{State}
+use Rattle.rules.specs.State.{State, empty-buffer}
 use Rattle.rules.specs.declared.Model.{Model}
 use Rattle.rules.specs.declared.Instr.{Instr}
 use Rattle.rules.specs.declared.Clause.{Clause}
@@ -26,5 +26,5 @@ start j =
       places = replicate most-threads 0;
       registers = replicate all-registers 0;
       memory = j .initial ++ replicate (most-variables - length (j .initial)) 0;
-      buffers = replicate most-threads [];
+      buffers = replicate most-threads empty-buffer;
     }

@@ -245,7 +245,7 @@ stored-register =
     ∷ 0x00 ∷ 0x01 ∷ 0x03 ∷ 0x00 ∷ 0x00 ∷ 0x09
     ∷ []
 
--- The fence check's words: each of the nine operations as store, load, fence and move.
+-- The fence check's words: each of version 1's nine operations as store, load, fence and move.
 
 -- What is a store, a load, a fence and a successor, one operation after the other: FENCED if nothing else is one
 unfoldable pub ends-and-moves : List ℕ

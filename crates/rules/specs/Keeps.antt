@@ -1,119 +1,52 @@
 -- Every state that an accepted job reaches is well formed: the start is, and each step keeps it so.
-use mathlib.Core.Path.{_≡_, refl, ap, subst}
-use mathlib.Core.Bool.{Bool, true, false, cond, _||_, false≢true}
-use mathlib.Core.List.{List, [], _∷_, _++_}
+use mathlib.Core.Path.{_≡_, refl, sym, ap, subst}
+use mathlib.Core.Bool.{Bool, true, false, cond, not, _&&_}
+use mathlib.Core.List.{List, [], _∷_}
 use mathlib.Core.Option.{Option, none, some}
 use Prim.Native.Nat.{ℕ, zero, suc, _+_, _-_, _*_, _≤_, _<_}
 use native.Mathlib.Omega.{arith}
-use lib.Dec.{eqb, ltb, leb}
+use lib.Dec.{eqb, ltb}
 use lib.ListN.{length, getD, replicate, getElem?, length-append, length-set, length-replicate}
-use borrow.Author.Tests.{ltb-true, leb-true, leb-false, eqb-true}
-use Rattle.reach.specs.Lists.{All, Pairwise}
+use borrow.Author.Tests.{ltb-true}
+use Rattle.reach.specs.Lists.{All}
 use Rattle.reach.specs.ListLaws.{all-at, all-imp, all-append, all-replicate, all-getD, all-set, at-in, at-below, at-getD, at-set, getD-padded}
 use Rattle.reach.specs.System.{andThen, run}
 use Rattle.reach.specs.RunLaws.{andThen-some}
 use Rattle.rules.specs.Limits.{most-threads, most-variables, registers-each, all-registers, values, most-pending, step-bound}
-use Rattle.rules.specs.State.{Pending, State, place, register, variable, buffer}
+use Rattle.rules.specs.State.{Pending, Buffer, empty-buffer, State, place, register, variable, buffer, pending}
 use Rattle.rules.specs.State.{with-place, with-register, with-variable, with-buffer}
 use Rattle.rules.specs.Job.{Job, start}
 use Rattle.rules.specs.Kinds.{control-of, wait-of}
-use Rattle.rules.specs.Step.{newest, by-variable, oldest-to, without-oldest-to, has-room, free, may-execute, is-pending-to, may-flush}
-use Rattle.rules.specs.Step.{carried, stored, changed, executed, flushed, instruction-at, flush-thread, flush-variable, needs, _then_}
+use Rattle.rules.specs.Step.{newest, oldest-to, without-oldest-to, counted, flushed-buffer, marked-buffer, is-empty, has-room, free, may-execute, is-pending-to, is-in-oldest-group, may-flush}
+use Rattle.rules.specs.Step.{carried, stored, grouped, changed, executed, flushed, instruction-at, flush-thread, flush-variable, needs, _then_}
 use Rattle.rules.specs.Step.{may-execute-of, may-flush-of, may, after-execute, after, step, next}
 use Rattle.rules.specs.MayLaws.{no-is-not-yes, needs-yes, then-yes, taken-some, execute-passed, flush-passed}
 use Rattle.rules.specs.Machine.{machine}
 use Rattle.rules.specs.Fences.{onward}
-use Rattle.rules.specs.Sound.{SourceIn, InstrIn, CapacityIn, JobIn, InOrder, BufferIn, WellFormed}
+use Rattle.rules.specs.Sound.{SourceIn, InstrIn, CapacityIn, JobIn, StandsBefore, InOrder, MarkIn, BufferIn, WellFormed}
+use Rattle.rules.specs.BufferLaws.{of-cond, Inserted, inserted-length, inserted-all, removed-all, removed-pairwise, at-end, in-its-place-inserted, oldest-taken, joins-in-order, counted-all, counted-length, counted-in-order, flush-leaves}
 use Rattle.rules.specs.Onward.{place-after-onward, control-in, onward-in}
 use Rattle.rules.specs.declared.May.the-variants.{Yes}
-use Rattle.rules.specs.declared.Reason.the-variants.{NoSuchStep}
+use Rattle.rules.specs.declared.Reason.the-variants.{NoSuchStep, NothingToFlush, NotTheOldest}
 use Rattle.rules.specs.declared.Model.{Model}
 use Rattle.rules.specs.declared.Model.the-variants.{Sc, Tso, Pso}
 use Rattle.rules.specs.declared.Source.{Source}
 use Rattle.rules.specs.declared.Source.the-variants.{Register, Constant}
 use Rattle.rules.specs.declared.Instr.{Instr}
-use Rattle.rules.specs.declared.Instr.the-variants.{Set, Add, Load, Store, Fence, Xchg, Jeq, Jmp}
+use Rattle.rules.specs.declared.Instr.the-variants.{Set, Add, Load, Store, Fence, Xchg, Jeq, Jmp, Cmpx, Wfence}
 
 -- "all values 0 to 255"
 abbrev pub Value : ℕ → Type 0
 Value k = k < values
 
-of-cond : {A : Type 0} (P : A → Type 0) (c : Bool) {a b : A} → (c ≡ true → P a) → (c ≡ false → P b) → P (cond c a b)
-of-cond P true h k = h refl
-of-cond P false h k = k refl
+-- Buffers.
 
--- Buffers. A store that joins is put in somewhere, and a flush takes one out from somewhere: `Inserted q b c`, c is b and q besides.
-
-data Inserted (q : Pending) : List Pending → List Pending → Type 0 where
-  here : {b : List Pending} → Inserted q b (q ∷ b)
-  later : {p : Pending} {b c : List Pending} → Inserted q b c → Inserted q (p ∷ b) (p ∷ c)
-
-module _ {q : Pending} where
-  inserted-length : {b c : List Pending} → Inserted q b c → length c ≡ suc (length b)
-  inserted-length here = refl
-  inserted-length (later i) = ap suc (inserted-length i)
-
-  inserted-all : (P : Pending → Type 0) {b c : List Pending} → Inserted q b c → P q → All P b → All P c
-  inserted-all P here h k = (h, k)
-  inserted-all P (later i) h k = (k .0, inserted-all P i h (k .1))
-
-  removed-all : (P : Pending → Type 0) {b c : List Pending} → Inserted q b c → All P c → P q × All P b
-  removed-all P here h = h
-  removed-all P (later i) h = let r = removed-all P i (h .1) in (r .0, (h .0, r .1))
-
-  removed-pairwise : (R : Pending → Pending → Type 0) {b c : List Pending} → Inserted q b c → Pairwise R c → Pairwise R b
-  removed-pairwise R here h = h .1
-  removed-pairwise R (later {p = p} i) h = (removed-all (R p) i (h .0) .1, removed-pairwise R i (h .1))
-
-at-end : (q : Pending) (b : List Pending) → Inserted q b (b ++ (q ∷ []))
-at-end q [] = here
-at-end q (p ∷ b) = later (at-end q b)
-
-by-variable-inserted : (q : Pending) (b : List Pending) → Inserted q b (by-variable q b)
-unfolding by-variable
-by-variable-inserted q [] = here
-by-variable-inserted q (p ∷ b) =
-    of-cond (Inserted q (p ∷ b)) (leb (p .variable) (q .variable)) (λ h. later (by-variable-inserted q b)) (λ h. here)
-
--- the order of PSO
-abbrev AtLeast : Pending → Pending → Type 0
-AtLeast p q = p .variable ≤ q .variable
-
-abbrev Ordered : List Pending → Type 0
-Ordered = Pairwise AtLeast
-
-by-variable-ordered : (q : Pending) (b : List Pending) → Ordered b → Ordered (by-variable q b)
-unfolding by-variable
-by-variable-ordered q [] h = (tt, tt)
-by-variable-ordered q (p ∷ b) h =
-    of-cond
-    Ordered
-    (leb (p .variable) (q .variable))
-    (λ e. (inserted-all (AtLeast p) (by-variable-inserted q b) (leb-true _ _ e) (h .0), by-variable-ordered q b (h .1)))
-    (λ e.
-    let lower : q .variable < p .variable = leb-false _ _ e in
-    ((omega arith, all-imp (AtLeast p) (AtLeast q) (λ r k. omega arith) b (h .0)), h))
-
--- what a flush takes was pending to its variable, and the rest is left
-oldest-taken : (v : ℕ) (b : List Pending)
-    → is-pending-to v b ≡ true → Inserted (record { variable = v; value = oldest-to v b }) (without-oldest-to v b) b
-unfolding is-pending-to oldest-to without-oldest-to
-oldest-taken v [] h = absurd (false≢true h)
-oldest-taken v (p ∷ b) h = which (eqb (p .variable) v) refl h (oldest-taken v b)
-  where
-    which :
-        (c : Bool) → eqb (p .variable) v ≡ c → (c || is-pending-to v b) ≡ true →
-        (is-pending-to v b ≡ true → Inserted (record { variable = v; value = oldest-to v b }) (without-oldest-to v b) b) →
-        Inserted (record { variable = v; value = cond c (p .value) (oldest-to v b) }) (cond c b (p ∷ without-oldest-to v b)) (p ∷ b)
-    which true e h behind = subst (λ u. Inserted (record { variable = u; value = p .value }) b (p ∷ b)) (eqb-true _ _ e) here
-    which false e h behind = later (behind h)
-
--- a store that may be flushed is pending
+-- a store that may be flushed is pending, under PSO in the oldest group
 flush-pending : (m : Model) (v : ℕ) (b : List Pending) → may-flush m v b ≡ Yes → is-pending-to v b ≡ true
 unfolding may-flush
 flush-pending Sc v b h = absurd (no-is-not-yes h)
 flush-pending Tso v b h = needs-yes (is-pending-to v b) _ (then-yes _ _ h .0)
-flush-pending Pso v b h = needs-yes (is-pending-to v b) _ h
+flush-pending Pso v b h = needs-yes (is-pending-to v b) _ (then-yes _ _ h .0)
 
 newest-value : (v k : ℕ) (b : List Pending) → Value k → All (λ p. Value (p .value)) b → Value (newest v k b)
 unfolding newest
@@ -124,13 +57,40 @@ newest-value v k (p ∷ b) h a =
 in-order-empty : (m : Model) → InOrder m []
 in-order-empty Sc = refl
 in-order-empty Tso = tt
-in-order-empty Pso = tt
+in-order-empty Pso = (tt, tt)
 
--- a buffer that one store has left is still in order; under SC there is none to leave it
-removed-in-order : (m : Model) {q : Pending} {b c : List Pending} → Inserted q b c → InOrder m c → InOrder m b
-removed-in-order Sc i h = absurd (omega (arith, inserted-length i, ap length h))
-removed-in-order Tso i h = tt
-removed-in-order Pso i h = removed-pairwise AtLeast i h
+unmarked-in : (m : Model) (b : Buffer) → b .marked ≡ false → MarkIn m b
+unmarked-in Sc b e = e
+unmarked-in Tso b e = e
+unmarked-in Pso b e = λ h. e
+
+-- what a flush leaves is in order
+flush-in-order : (m : Model) (v : ℕ) (b : List Pending) → may-flush m v b ≡ Yes → InOrder m b → InOrder m (counted (without-oldest-to v b))
+unfolding may-flush
+flush-in-order Sc v b may o = absurd (no-is-not-yes may)
+flush-in-order Tso v b may o =
+    let i = oldest-taken v b (flush-pending Tso v b may) .1 in
+    counted-all (λ p. p .group ≡ 0) (λ g p h. omega (arith, h)) _ (removed-all (λ p. p .group ≡ 0) i o .1)
+flush-in-order Pso v b may o =
+    let i = oldest-taken v b (flush-pending Pso v b may) .1 in
+    let oldest = needs-yes (is-in-oldest-group v b) NotTheOldest (then-yes (needs (is-pending-to v b) NothingToFlush) _ may .1) in
+    counted-in-order 1 _ (removed-pairwise StandsBefore i (o .0)) (flush-leaves v b 0 (o .0) oldest (o .1))
+
+flush-mark-in : (m : Model) (v : ℕ) (b : Buffer) → MarkIn m b → MarkIn m (flushed-buffer v b)
+unfolding flushed-buffer is-empty
+flush-mark-in Sc v b h = rw h
+flush-mark-in Tso v b h = rw h
+flush-mark-in Pso v b h = λ e.
+    let rest = without-oldest-to v (b .pending) in
+    gone (b .marked) (is-empty rest) (nothing-left rest (omega (arith, ap length e, counted-length rest)))
+  where
+    nothing-left : (l : List Pending) → length l ≡ 0 → is-empty l ≡ true
+    nothing-left [] n = refl
+    nothing-left (p ∷ l) n = absurd (omega arith)
+
+    gone : (m e : Bool) → e ≡ true → (m && not e) ≡ false
+    gone true e d = rw d
+    gone false e d = refl
 
 -- a pending store's variable and value are in range
 record PendingIn (j : Job) (q : Pending) : Type 0 where
@@ -138,35 +98,51 @@ record PendingIn (j : Job) (q : Pending) : Type 0 where
   value-in : Value (q .value)
 
 module _ (j : Job) where
-  empty-in : BufferIn j []
-  empty-in = record { count = omega arith; variables = tt; values-in = tt; order = in-order-empty (j .model) }
+  empty-in : BufferIn j empty-buffer
+  empty-in = record { count = omega arith; variables = tt; values-in = tt; order = in-order-empty (j .model); mark = unmarked-in (j .model) empty-buffer refl }
 
-  inserted-in : {q : Pending} {b c : List Pending}
-      → Inserted q b c → BufferIn j b → PendingIn j q → length b < j .capacity → InOrder (j .model) c → BufferIn j c
-  inserted-in i h q room o =
+  -- a store has joined: the mark has ended
+  inserted-in : {q : Pending} {b : Buffer} {c : List Pending}
+      → Inserted q (b .pending) c → BufferIn j b → PendingIn j q → length (b .pending) < j .capacity → InOrder (j .model) c
+      → BufferIn j (record { pending = c; marked = false })
+  inserted-in {c = c} i h q room o =
       record {
         count = omega (arith, inserted-length i);
         variables = inserted-all (λ p. p .variable < length (j .initial)) i (q .variable-in) (h .variables);
         values-in = inserted-all (λ p. Value (p .value)) i (q .value-in) (h .values-in);
         order = o;
+        mark = unmarked-in (j .model) (record { pending = c; marked = false }) refl;
       }
 
-  removed-in : {q : Pending} {b c : List Pending} → Inserted q b c → BufferIn j c → PendingIn j q × BufferIn j b
-  removed-in i h =
-      let v = removed-all (λ p. p .variable < length (j .initial)) i (h .variables) in
+  -- a store is flushed: what went to memory, and what is left
+  flushed-in : (v : ℕ) (b : Buffer) → may-flush (j .model) v (b .pending) ≡ Yes → BufferIn j b
+      → (v < length (j .initial)) × Value (oldest-to v (b .pending)) × BufferIn j (flushed-buffer v b)
+  unfolding flushed-buffer
+  flushed-in v b may h =
+      let i = oldest-taken v (b .pending) (flush-pending (j .model) v (b .pending) may) .1 in
+      let rest = without-oldest-to v (b .pending) in
+      let u = removed-all (λ p. p .variable < length (j .initial)) i (h .variables) in
       let k = removed-all (λ p. Value (p .value)) i (h .values-in) in (
-        record { variable-in = v .0; value-in = k .0 },
+        u .0,
+        k .0,
         record {
-          count = omega (arith, inserted-length i);
-          variables = v .1;
-          values-in = k .1;
-          order = removed-in-order (j .model) i (h .order);
+          count = omega (arith, inserted-length i, counted-length rest, h .count);
+          variables = counted-all (λ p. p .variable < length (j .initial)) (λ g p e. e) rest (u .1);
+          values-in = counted-all (λ p. Value (p .value)) (λ g p e. e) rest (k .1);
+          order = flush-in-order (j .model) v (b .pending) may (h .order);
+          mark = flush-mark-in (j .model) v b (h .mark);
         },
       )
 
+  -- a WFENCE under PSO: a mark stands only behind a store
+  marked-in : (b : Buffer) → j .model ≡ Pso → BufferIn j b → BufferIn j (marked-buffer b)
+  unfolding marked-buffer is-empty
+  marked-in b pso h =
+      record { count = h .count; variables = h .variables; values-in = h .values-in; order = h .order; mark = subst (λ m. MarkIn m (marked-buffer b)) (sym pso) (λ e. rw e) }
+
 -- the stores of one buffer never outnumber the pairs that a slot has for them
-abbrev pub Fits : List Pending → Type 0
-Fits b = length b ≤ most-pending
+abbrev pub Fits : Buffer → Type 0
+Fits b = length (b .pending) ≤ most-pending
 
 pub capacity-most : (m : Model) (c : ℕ) → CapacityIn m c → c ≤ most-pending
 capacity-most Sc c h = omega arith
@@ -174,7 +150,7 @@ capacity-most Tso c h = h .1
 capacity-most Pso c h = h .1
 
 module _ (j : Job) (ok : JobIn j) where
-  pub buffer-fits : (b : List Pending) → BufferIn j b → Fits b
+  pub buffer-fits : (b : Buffer) → BufferIn j b → Fits b
   buffer-fits b h = omega (arith, capacity-most (j .model) (j .capacity) (ok .capacity))
 
   pub buffers-fit : (x : State) → WellFormed j x → All Fits (x .buffers)
@@ -191,9 +167,9 @@ module _ (j : Job) (x : State) (w : WellFormed j x) where
   unfolding variable
   variable-value v = all-getD Value (x .memory) v 0 (w .memory) (omega arith)
 
-  buffer-in : (t : ℕ) → BufferIn j (buffer t x)
+  pub buffer-in : (t : ℕ) → BufferIn j (buffer t x)
   unfolding buffer
-  buffer-in t = all-getD (BufferIn j) (x .buffers) t [] (w .buffers) (empty-in j)
+  buffer-in t = all-getD (BufferIn j) (x .buffers) t empty-buffer (w .buffers) (empty-in j)
 
   with-place-keeps : (t p : ℕ) → p ≤ length (getD (j .threads) t []) → WellFormed j (with-place t p x)
   unfolding place register variable buffer with-place
@@ -258,7 +234,7 @@ module _ (j : Job) (x : State) (w : WellFormed j x) where
         buffers-unused = w .buffers-unused;
       }
 
-  with-buffer-keeps : (t : ℕ) (b : List Pending) → t < length (j .threads) → BufferIn j b → WellFormed j (with-buffer t b x)
+  with-buffer-keeps : (t : ℕ) (b : Buffer) → t < length (j .threads) → BufferIn j b → WellFormed j (with-buffer t b x)
   unfolding place register variable buffer with-buffer
   with-buffer-keeps t b used h =
       record {
@@ -273,7 +249,7 @@ module _ (j : Job) (x : State) (w : WellFormed j x) where
         memory-unused = w .memory-unused;
         buffers = all-set (BufferIn j) (x .buffers) t b (w .buffers) h;
         buffers-unused =
-            at-set (λ u c. length (j .threads) ≤ u → c ≡ []) (x .buffers) t b [] (w .buffers-unused) (λ beyond. absurd (omega arith));
+            at-set (λ u c. length (j .threads) ≤ u → c ≡ empty-buffer) (x .buffers) t b empty-buffer (w .buffers-unused) (λ beyond. absurd (omega arith));
       }
 
   carried-value : (t : ℕ) (a : Source) → SourceIn a → Value (carried t x a)
@@ -314,20 +290,36 @@ stands j ok t p i e =
 
 module _ (j : Job) (t : ℕ) (used : t < length (j .threads)) (x : State) (w : WellFormed j x) where
   joined-keeps : {q : Pending} {c : List Pending}
-      → Inserted q (buffer t x) c → PendingIn j q → length (buffer t x) < j .capacity → InOrder (j .model) c → WellFormed j (with-buffer t c x)
+      → Inserted q (pending t x) c → PendingIn j q → length (pending t x) < j .capacity → InOrder (j .model) c
+      → WellFormed j (with-buffer t (record { pending = c; marked = false }) x)
   joined-keeps i h room o = with-buffer-keeps j x w t _ used (inserted-in j i (buffer-in j x w t) h room o)
 
-  stored-keeps : (m : Model) → j .model ≡ m → (v k : ℕ) → PendingIn j (record { variable = v; value = k })
-      → has-room m (j .capacity) (buffer t x) ≡ true → WellFormed j (stored m t v k x)
+  stored-keeps : (m : Model) → j .model ≡ m → (v k : ℕ) → v < length (j .initial) → Value k
+      → has-room m (j .capacity) (pending t x) ≡ true → WellFormed j (stored m t v k x)
   unfolding stored has-room
-  stored-keeps Sc e v k h room = with-variable-keeps j x w v k (h .variable-in) (h .value-in)
-  stored-keeps Tso e v k h room = joined-keeps (at-end _ _) h (ltb-true _ _ room) (rw e tt)
-  stored-keeps Pso e v k h room =
-      joined-keeps (by-variable-inserted _ _) h (ltb-true _ _ room)
-      (rw e (by-variable-ordered _ (buffer t x) (rw e at (buffer-in j x w t .order))))
+  stored-keeps Sc e v k to value room = with-variable-keeps j x w v k to value
+  stored-keeps Tso e v k to value room =
+      let o : All (λ p. p .group ≡ 0) (pending t x) = rw e at (buffer-in j x w t .order) in
+      joined-keeps (at-end _ _) (record { variable-in = to; value-in = value }) (ltb-true _ _ room)
+      (rw e (inserted-all (λ p. p .group ≡ 0) (at-end _ (pending t x)) refl o))
+  stored-keeps Pso e v k to value room =
+      let b = buffer-in j x w t in
+      joined-keeps (in-its-place-inserted _ _) (record { variable-in = to; value-in = value }) (ltb-true _ _ room)
+      (rw e (joins-in-order (buffer t x) v k (rw e at (b .mark)) (rw e at (b .order))))
+
+  grouped-keeps : (m : Model) → j .model ≡ m → WellFormed j (grouped m t x)
+  unfolding grouped
+  grouped-keeps Sc e = w
+  grouped-keeps Tso e = w
+  grouped-keeps Pso e = with-buffer-keeps j x w t _ used (marked-in j (buffer t x) e (buffer-in j x w t))
+
+  -- CMPX writes or not
+  compared-keeps : (b : Bool) (v k : ℕ) → v < length (j .initial) → Value k → WellFormed j (cond b (with-variable v k x) x)
+  compared-keeps true v k to value = with-variable-keeps j x w v k to value
+  compared-keeps false v k to value = w
 
   changed-keeps : (n : ℕ) (i : Instr) → InstrIn (length (j .initial)) n i
-      → free (j .model) (j .capacity) (wait-of i) (buffer t x) ≡ Yes → WellFormed j (changed (j .model) t i x)
+      → free (j .model) (j .capacity) (wait-of i) (pending t x) ≡ Yes → WellFormed j (changed (j .model) t i x)
   unfolding changed wait-of free
   changed-keeps n (Set r k) h f = with-register-keeps j x w t r k used (h .0) (h .1)
   changed-keeps n (Add r k) h f = with-register-keeps j x w t r _ used (h .0) (omega arith)
@@ -335,15 +327,17 @@ module _ (j : Job) (t : ℕ) (used : t < length (j .threads)) (x : State) (w : W
       with-register-keeps j x w t r _ used (h .0)
       (newest-value v _ _ (variable-value j x w v) (buffer-in j x w _ .values-in))
   changed-keeps n (Store a v) h f =
-      stored-keeps (j .model) refl v (carried t x a) (record { variable-in = h .1; value-in = carried-value j x w t a (h .0) })
-      (needs-yes _ _ f)
+      stored-keeps (j .model) refl v (carried t x a) (h .1) (carried-value j x w t a (h .0)) (needs-yes _ _ f)
   changed-keeps n Fence h f = w
   changed-keeps n (Xchg r v) h f =
       with-register-keeps j _ (with-variable-keeps j x w v _ (h .1) (register-value j x w t r)) t r _ used (h .0) (variable-value j x w v)
   changed-keeps n (Jeq r p k) h f = w
   changed-keeps n (Jmp p) h f = w
+  changed-keeps n (Cmpx r v k) h f =
+      with-register-keeps j _ (compared-keeps (eqb (variable v x) (register t r x)) v k (h .1) (h .2)) t r _ used (h .0) (variable-value j x w v)
+  changed-keeps n Wfence h f = grouped-keeps (j .model) refl
 
-  executed-keeps : (i : Instr) → StandsIn j t (place t x) i → free (j .model) (j .capacity) (wait-of i) (buffer t x) ≡ Yes
+  executed-keeps : (i : Instr) → StandsIn j t (place t x) i → free (j .model) (j .capacity) (wait-of i) (pending t x) ≡ Yes
       → WellFormed j (executed (j .model) t i x)
   unfolding executed
   executed-keeps i h f =
@@ -354,20 +348,20 @@ module _ (j : Job) (t : ℕ) (used : t < length (j .threads)) (x : State) (w : W
 
 module _ (j : Job) (ok : JobIn j) (x : State) (w : WellFormed j x) where
   execute-keeps : (t : ℕ) (o : Option Instr) → instruction-at j t (place t x) ≡ o
-      → may-execute (j .model) (j .capacity) o (buffer t x) ≡ Yes → WellFormed j (after-execute (j .model) t o x)
+      → may-execute (j .model) (j .capacity) o (pending t x) ≡ Yes → WellFormed j (after-execute (j .model) t o x)
   unfolding may-execute after-execute
   execute-keeps t none e may = w
   execute-keeps t (some i) e may = let h = stands j ok t (place t x) i e in executed-keeps j t (h .thread) x w i h may
 
-  flush-keeps : (t v : ℕ) → may-flush (j .model) v (buffer t x) ≡ Yes → WellFormed j (flushed t v x)
+  flush-keeps : (t v : ℕ) → may-flush (j .model) v (pending t x) ≡ Yes → WellFormed j (flushed t v x)
   unfolding flushed
   flush-keeps t v may =
-      let i = oldest-taken v (buffer t x) (flush-pending (j .model) v (buffer t x) may) in
-      let r = removed-in j i (buffer-in j x w t) in
+      let r = flushed-in j v (buffer t x) may (buffer-in j x w t) in
+      let i = oldest-taken v (pending t x) (flush-pending (j .model) v (pending t x) may) .1 in
       -- a thread that the job doesn't have has nothing pending
-      let there : ¬ (length (j .threads) ≤ t) = λ beyond. omega (arith, inserted-length i, ap length (w .buffers-unused t beyond)) in
-      let memory-set = with-variable-keeps j x w v _ (r .0 .variable-in) (r .0 .value-in) in
-      with-buffer-keeps j _ memory-set t _ (omega arith) (r .1)
+      let there : ¬ (length (j .threads) ≤ t) =
+      λ beyond. omega (arith, inserted-length i, ap (λ (b : Buffer). length (b .pending)) (w .buffers-unused t beyond)) in
+      with-buffer-keeps j _ (with-variable-keeps j x w v _ (r .0) (r .1)) t _ (omega arith) (r .2)
 
   after-keeps : (s : ℕ) → may j s x ≡ Yes → WellFormed j (after j s x)
   unfolding may after
@@ -397,8 +391,8 @@ start-well-formed j ok =
       registers-unused = λ t r h k. getD-padded [] all-registers (registers-each * t + r) 0 (omega arith);
       memory = all-append Value (j .initial) (replicate spare 0) (ok .initial) (all-replicate Value spare 0 (omega arith));
       memory-unused = λ v beyond. getD-padded (j .initial) spare v 0 beyond;
-      buffers = all-replicate (BufferIn j) most-threads [] (empty-in j);
-      buffers-unused = λ t beyond. getD-padded [] most-threads t [] (omega arith);
+      buffers = all-replicate (BufferIn j) most-threads empty-buffer (empty-in j);
+      buffers-unused = λ t beyond. getD-padded [] most-threads t empty-buffer (omega arith);
     }
 
 pub next-well-formed : (j : Job) → JobIn j → (s : ℕ) (x y : State) → WellFormed j x → next j s x ≡ some y → WellFormed j y

@@ -18,11 +18,16 @@ pub mod Onward
 pub mod FenceCheck
 pub mod Accepted
 pub mod Asked
+pub mod BufferLaws
 pub mod Keeps
 pub mod ReasonLaws
 pub mod SlotLaws
+pub mod Groups
+pub mod Versions
 pub mod Jobs
+pub mod GroupJobs
 pub mod Claims
+pub mod GroupPins
 pub mod Pins
 pub mod Worked
 pub mod DeadCode

@@ -34,9 +34,16 @@ fewest-clauses = 1
 abbrev pub most-clauses : ℕ
 most-clauses = 16
 
--- "version | 1 | 1", "version not 1"
-abbrev pub file-version : ℕ
-file-version = 1
+-- "version | 1 | 1"; request 7, "Job version 2 adds two operations", "refusal 2 now means neither version"
+abbrev pub first-version : ℕ
+first-version = 1
+
+-- the version that brought CMPX and WFENCE
+abbrev pub second-version : ℕ
+second-version = 2
+
+abbrev pub last-version : ℕ
+last-version = second-version
 
 -- "Length first", then the version: "fewer than 3 bytes" are none of a job
 abbrev pub length-size : ℕ
@@ -59,6 +66,13 @@ longest-file = head-size + most-variables + most-threads * (1 + item-size * long
 
 abbrev pub all-registers : ℕ
 all-registers = most-threads * registers-each
+
+-- request 7: "a pending store's variable byte gains 16 times its group number", "The count byte gains 128 while a WFENCE stands after the newest store"
+abbrev pub group-unit : ℕ
+group-unit = 16
+
+abbrev pub mark-unit : ℕ
+mark-unit = 128
 
 -- "Slot layout: bytes 0-3 places; 4-19 registers, thread by thread; 20-27 memory; then 17 bytes a thread: count, and eight pairs"
 abbrev pub pairs-size : ℕ

@@ -8,7 +8,7 @@ use lib.ListN.{length}
 use borrow.Author.Tests.{lt-ltb, le-ltb, ltb-true}
 use Rattle.reach.specs.Explained.{forget}
 use Rattle.rules.specs.Limits.{most-threads, most-variables, step-bound}
-use Rattle.rules.specs.State.{State, place, buffer}
+use Rattle.rules.specs.State.{State, place, pending}
 use Rattle.rules.specs.Job.{Job}
 use Rattle.rules.specs.Step.{needs, is-yes, _then_, by-may, may-execute, may-flush, instruction-at, flush-thread, flush-variable, has-thread, has-variable}
 use Rattle.rules.specs.Step.{may-execute-of, may-flush-of, may}
@@ -67,7 +67,7 @@ module _ (j : Job) (x : State) where
 
   -- a thread of the job executes by the instruction at its place and its buffer
   pub execute-of-thread :
-      (t : ℕ) → t < length (j .threads) → may-execute-of j t x ≡ may-execute (j .model) (j .capacity) (instruction-at j t (place t x)) (buffer t x)
+      (t : ℕ) → t < length (j .threads) → may-execute-of j t x ≡ may-execute (j .model) (j .capacity) (instruction-at j t (place t x)) (pending t x)
   unfolding may-execute-of has-thread
   execute-of-thread t h = rw (lt-ltb t (length (j .threads)) h)
 
@@ -77,7 +77,7 @@ module _ (j : Job) (x : State) where
 
   -- and flushes to a variable of the job by its buffer
   pub flush-of-variable :
-      (t v : ℕ) → t < length (j .threads) → v < length (j .initial) → may-flush-of j t v x ≡ may-flush (j .model) v (buffer t x)
+      (t v : ℕ) → t < length (j .threads) → v < length (j .initial) → may-flush-of j t v x ≡ may-flush (j .model) v (pending t x)
   unfolding may-flush-of has-thread has-variable
   flush-of-variable t v h l = rw (lt-ltb t (length (j .threads)) h, lt-ltb v (length (j .initial)) l)
 
@@ -96,18 +96,18 @@ module _ (j : Job) (x : State) where
   -- what may execute is a thread of the job, and its instruction waits for nothing
   pub execute-passed :
       (t : ℕ) → may-execute-of j t x ≡ Yes →
-      (t < length (j .threads)) × (may-execute (j .model) (j .capacity) (instruction-at j t (place t x)) (buffer t x) ≡ Yes)
+      (t < length (j .threads)) × (may-execute (j .model) (j .capacity) (instruction-at j t (place t x)) (pending t x) ≡ Yes)
   unfolding may-execute-of has-thread
   execute-passed t e =
-      let p = then-yes (needs (has-thread j t) NoSuchStep) (may-execute (j .model) (j .capacity) (instruction-at j t (place t x)) (buffer t x)) e in
+      let p = then-yes (needs (has-thread j t) NoSuchStep) (may-execute (j .model) (j .capacity) (instruction-at j t (place t x)) (pending t x)) e in
       (ltb-true _ _ (needs-yes (has-thread j t) NoSuchStep (p .0)), p .1)
 
   -- what may be flushed is of a thread and to a variable of the job
   pub flush-passed :
       (t v : ℕ) → may-flush-of j t v x ≡ Yes →
-      (t < length (j .threads)) × (v < length (j .initial)) × (may-flush (j .model) v (buffer t x) ≡ Yes)
+      (t < length (j .threads)) × (v < length (j .initial)) × (may-flush (j .model) v (pending t x) ≡ Yes)
   unfolding may-flush-of has-thread has-variable
   flush-passed t v e =
-      let p = then-yes (needs (has-thread j t && has-variable j v) NoSuchStep) (may-flush (j .model) v (buffer t x)) e in
+      let p = then-yes (needs (has-thread j t && has-variable j v) NoSuchStep) (may-flush (j .model) v (pending t x)) e in
       let q = both-true (has-thread j t) (has-variable j v) (needs-yes (has-thread j t && has-variable j v) NoSuchStep (p .0)) in
       (ltb-true _ _ (q .0), ltb-true _ _ (q .1), p .1)

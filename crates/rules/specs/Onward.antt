@@ -15,7 +15,7 @@ use Rattle.rules.specs.Step.{place-after}
 use Rattle.rules.specs.Fences.{onward}
 use Rattle.rules.specs.Sound.{InstrIn}
 use Rattle.rules.specs.declared.Instr.{Instr}
-use Rattle.rules.specs.declared.Instr.the-variants.{Set, Add, Load, Store, Fence, Xchg, Jeq, Jmp}
+use Rattle.rules.specs.declared.Instr.the-variants.{Set, Add, Load, Store, Fence, Xchg, Jeq, Jmp, Cmpx, Wfence}
 use Rattle.rules.specs.declared.Control.{Control}
 use Rattle.rules.specs.declared.Control.the-variants.{On, To, ToIf}
 
@@ -53,6 +53,8 @@ control-in vars n Fence h = tt
 control-in vars n (Xchg r v) h = tt
 control-in vars n (Jeq r p k) h = (h .0, h .1)
 control-in vars n (Jmp p) h = h
+control-in vars n (Cmpx r v k) h = tt
+control-in vars n Wfence h = tt
 
 -- every successor of a place is one of the thread's places, or its end
 pub onward-in : (n p : ℕ) (c : Control) → ControlIn n c → p < n → All (λ q. q ≤ n) (onward p c)

@@ -1,5 +1,5 @@
 -- What 01's own list leaves open: rows beyond it, each under the rule that it pins, and single worked values. The counts and schedules were
--- worked by a checker written apart. `Worked` has the list of 01, with what requests 5 and 8 changed of it, and that every row of both holds.
+-- worked by a checker written apart. `Worked` has the list of 01, with what requests 5, 7 and 8 changed of it, and that every row of both holds.
 use mathlib.Core.Path.{_≡_, refl}
 use mathlib.Core.List.{List, [], _∷_, _++_}
 use Prim.Native.Nat.{ℕ, zero, suc, _+_, _^_}
@@ -7,13 +7,14 @@ use lib.ListN.{set, take, replicate}
 use Rattle.reach.specs.Replay.{reaches, falls-short, stuck}
 use Rattle.rules.specs.Limits.{longest-thread, longest-file, slot-size, step-bound, most-slots}
 use Rattle.rules.specs.Slot.{pair-bytes, buffer-bytes, buffers-bytes, slot-bytes}
-use Rattle.rules.specs.State.{State, register}
+use Rattle.rules.specs.State.{State, empty-buffer, register}
 use Rattle.rules.specs.Fences.{fenced, open-at}
 use Rattle.rules.specs.Jobs.{p1, p2, p3, p4, p5, p6, p9, p10, p12, p9-sc, p9-sc-drained, p2-drained, no-instruction, waits-apart, three-to-one, own-newest, fence-waits, exchange, jump-over, either-order, oldest-first, stored-register}
 use Rattle.rules.specs.Jobs.{exchange-between, ends-and-moves, back-around, past-a-load, next-of-two, over-a-fence}
 use Rattle.rules.specs.Jobs.{in-memory, other-registers, widest, sixty-four, sixty-five, next-door, fifty-one, down-the-stairs, fullest, too-long, cut, cut-unknown, left-over}
 use Rattle.rules.specs.Jobs.{two-lengths, lengths-turned, nine-stores, behind-a-jump, down-to-a-store, parked-store, two-stores-open, two-threads-open, last-thread-open, last-of-all, third-drains, highest-values, round-to-zero, each-reason, each-reason-sc, each-reason-pso}
 use Rattle.rules.specs.Jobs.{set-0, add-0, load-x, store-r, store-x, fence, xchg-x, jeq-to, jmp-to, alone}
+use Rattle.rules.specs.GroupPins.{group-pins}
 use Rattle.rules.specs.Claims.{search-reaches, search-never, search-unknown, slots-follow, links-are, fences-say, replay-says, slot-after, enabled-after, withheld-after, refuses, Case, case}
 use Rattle.rules.specs.declared.Reason.the-variants.{NoSuchStep, ThreadEnded, BufferFull, BufferNotEmpty, NothingToFlush, NotTheOldest}
 
@@ -69,7 +70,7 @@ no-steps = 2 ∷ 3 ∷ 7 ∷ 8 ∷ 9 ∷ 10 ∷ 11 ∷ count-up 15 241
 -- slots, job, and what it pins
 unfoldable pub pins : List Case
 pins =
-    -- The verdict, refusal 7 and `DeadCode` go by these fourteen, and name them by their places.
+    -- The verdict, refusal 7 and `DeadCode` go by these fifteen, and name them by their places.
     -- SC and FENCED with flag 0: what a verdict goes by
     case 640 p9-sc (search-never 22)
     -- the same: the fence check
@@ -98,6 +99,8 @@ pins =
     ∷ case 640 parked-store (search-never 63)
     -- the same: the fence check
     ∷ case 640 parked-store (fences-say fenced)
+    -- version 0 is none
+    ∷ case 640 (set p1 2 0x00) (refuses 2 2)
     -- The rest, in the order of the paper.
     -- a load takes the newest own store: 1 is not loaded once 2 is pending
     ∷ case 640 own-newest (search-never 9)
@@ -438,13 +441,11 @@ pins =
     -- a length whose high byte is too great
     ∷ case 640 (set p1 0 0x01) (refuses 1 0)
     -- 1 is judged before 2
-    ∷ case 640 (set (set p1 1 0x2C) 2 0x02) (refuses 1 0)
-    -- version 2 is none
-    ∷ case 640 (set p1 2 0x02) (refuses 2 2)
-    -- version 0 is none
-    ∷ case 640 (set p1 2 0x00) (refuses 2 2)
-    -- version 3 is none
-    ∷ case 640 (set p1 2 0x03) (refuses 2 2)
+    ∷ case 640 (set (set p1 1 0x2C) 2 0x00) (refuses 1 0)
+    -- P1 with version 2 is accepted (request 7)
+    ∷ case 640 (set p1 2 0x02) (search-reaches 22 (0x00 ∷ 0x00 ∷ 0x01 ∷ 0x01 ∷ []))
+    -- version 4 is none
+    ∷ case 640 (set p1 2 0x04) (refuses 2 2)
     -- version 255 is none
     ∷ case 640 (set p1 2 0xFF) (refuses 2 2)
     -- model 3 is none
@@ -637,7 +638,8 @@ pins =
     ∷ case 640 (set (set (take 43 p1) 1 41) 41 0x04) (refuses 6 41)
     -- a bad clause before one cut off wins
     ∷ case 640 (set (set (take 43 p1) 1 41) 29 0x04) (refuses 5 29)
-    ∷ []
+    -- and those of request 7
+    ∷ group-pins
 
 -- The numbers that 01 and request 2 say outright.
 pub numbers-are : (longest-thread ≡ 64) × (longest-file ≡ 1109) × (slot-size ≡ 96) × (step-bound ≡ 36) × (most-slots ≡ 65536)
@@ -650,7 +652,7 @@ each-apart =
       places = 1 ∷ 2 ∷ 3 ∷ 4 ∷ [];
       registers = 10 ∷ 11 ∷ 12 ∷ 13 ∷ 14 ∷ 15 ∷ 16 ∷ 17 ∷ 18 ∷ 19 ∷ 20 ∷ 21 ∷ 22 ∷ 23 ∷ 24 ∷ 25 ∷ [];
       memory = 30 ∷ 31 ∷ 32 ∷ 33 ∷ 34 ∷ 35 ∷ 36 ∷ 37 ∷ [];
-      buffers = replicate 4 [];
+      buffers = replicate 4 empty-buffer;
     }
 
 -- "bytes 0-3 places; 4-19 registers, thread by thread; 20-27 memory"

@@ -1,7 +1,7 @@
 -- A step is withheld for the first reason that applies, and given where none does: `Reasons` is met by `Step` `step`, for every job, number and state.
 use mathlib.Core.Path.{_≡_, refl, sym, _∙_, ap, subst}
 use mathlib.Core.Logic.{_⊎_, inl, inr}
-use mathlib.Core.Bool.{Bool, true, false, _||_, false≢true}
+use mathlib.Core.Bool.{Bool, true, false, _&&_, _||_, false≢true}
 use mathlib.Core.List.{List, [], _∷_}
 use mathlib.Core.Option.{Option, none, some, Option·some-injective}
 use Prim.Native.Nat.{ℕ, suc, _≤_, _<_}
@@ -15,18 +15,18 @@ use Rattle.reach.specs.ListLaws.{at-below, below-at}
 use Rattle.reach.specs.RunLaws.{none-is-not-some}
 use Rattle.reach.specs.Explained.{Stepped, gives, withheld, forget}
 use Rattle.rules.specs.Limits.{most-threads, step-bound}
-use Rattle.rules.specs.State.{Pending, State, place, buffer}
+use Rattle.rules.specs.State.{Pending, State, place, pending}
 use Rattle.rules.specs.Job.{Job}
 use Rattle.rules.specs.Kinds.{wait-of}
-use Rattle.rules.specs.Step.{is-empty, needs, _then_, has-room, free, may-execute, is-pending-to, is-oldest-to, may-flush, instruction-at, flush-thread, flush-variable}
+use Rattle.rules.specs.Step.{is-empty, needs, _then_, has-room, free, may-execute, is-pending-to, is-oldest-to, is-in-oldest-group, may-flush, instruction-at, flush-thread, flush-variable}
 use Rattle.rules.specs.Step.{may-execute-of, may-flush-of, may, after, by-may, step}
-use Rattle.rules.specs.Reasons.{number-of, same-number, Flushes, PendingTo, OldestTo, Stores, Drains, Applies, FirstThatApplies}
+use Rattle.rules.specs.Reasons.{number-of, same-number, Flushes, PendingTo, OldestTo, InOldestGroup, Behind, Stores, Drains, Applies, FirstThatApplies}
 use Rattle.rules.specs.MayLaws.{may-executes, may-flushes, none-from-bound, execute-of-thread, execute-of-no-thread, flush-of-variable, flush-of-no-thread, flush-of-no-variable}
 use Rattle.rules.specs.Keeps.{instruction-of-thread}
 use Rattle.rules.specs.declared.Model.{Model}
 use Rattle.rules.specs.declared.Model.the-variants.{Sc, Tso, Pso}
 use Rattle.rules.specs.declared.Instr.{Instr}
-use Rattle.rules.specs.declared.Instr.the-variants.{Set, Add, Load, Store, Fence, Xchg, Jeq, Jmp}
+use Rattle.rules.specs.declared.Instr.the-variants.{Set, Add, Load, Store, Fence, Xchg, Jeq, Jmp, Cmpx, Wfence}
 use Rattle.rules.specs.declared.Wait.{Wait}
 use Rattle.rules.specs.declared.Wait.the-variants.{Never, ForRoom, UntilEmpty}
 use Rattle.rules.specs.declared.Reason.{Reason}
@@ -100,6 +100,33 @@ unfolding is-oldest-to
 not-oldest-to v [] e h = absurd (omega (arith, ap length (h .2)))
 not-oldest-to v (p ∷ b) e h = let same : p ≡ h .0 = (let d = h .2 in cc) in eqb-false _ _ e (ap (λ q. q .variable) same ∙ h .3)
 
+in-oldest-group : (v : ℕ) (b : List Pending) → is-in-oldest-group v b ≡ true → InOldestGroup v b
+unfolding is-in-oldest-group
+in-oldest-group v [] e = absurd (false≢true e)
+in-oldest-group v (p ∷ b) e = which (eqb (p .group) 0) (eqb (p .variable) v) refl refl e (in-oldest-group v b)
+  where
+    later : InOldestGroup v b → InOldestGroup v (p ∷ b)
+    later q = (q .0, inr (q .1), q .2, q .3)
+
+    which : (c d : Bool) → eqb (p .group) 0 ≡ c → eqb (p .variable) v ≡ d → ((c && d) || is-in-oldest-group v b) ≡ true →
+        (is-in-oldest-group v b ≡ true → InOldestGroup v b) → InOldestGroup v (p ∷ b)
+    which true true g u e behind = (p, inl refl, eqb-true _ _ u, eqb-true _ _ g)
+    which true false g u e behind = later (behind e)
+    which false d g u e behind = later (behind e)
+
+not-in-oldest-group : (v : ℕ) (b : List Pending) → is-in-oldest-group v b ≡ false → ¬ (InOldestGroup v b)
+unfolding is-in-oldest-group
+not-in-oldest-group v [] e h = h .1
+not-in-oldest-group v (p ∷ b) e h = which (eqb (p .group) 0) (eqb (p .variable) v) refl refl e (not-in-oldest-group v b) (h .1)
+  where
+    which : (c d : Bool) → eqb (p .group) 0 ≡ c → eqb (p .variable) v ≡ d → ((c && d) || is-in-oldest-group v b) ≡ false →
+        (is-in-oldest-group v b ≡ false → ¬ (InOldestGroup v b)) → (h .0 ≡ p) ⊎ (h .0 ∈ b) → ⊥
+    which true true g u e behind m = false≢true (sym e)
+    which true false g u e behind (inl same) = eqb-false _ _ u (ap (λ q. q .variable) (sym same) ∙ h .2)
+    which true false g u e behind (inr m) = behind e (h .0, m, h .2, h .3)
+    which false d g u e behind (inl same) = eqb-false _ _ g (ap (λ q. q .group) (sym same) ∙ h .3)
+    which false d g u e behind (inr m) = behind e (h .0, m, h .2, h .3)
+
 empty-is : (b : List Pending) → is-empty b ≡ true → b ≡ []
 unfolding is-empty
 empty-is [] e = refl
@@ -131,12 +158,15 @@ waits-store Fence e = absurd (omega (arith, ap wait-number e))
 waits-store (Xchg r v) e = absurd (omega (arith, ap wait-number e))
 waits-store (Jeq r p k) e = absurd (omega (arith, ap wait-number e))
 waits-store (Jmp p) e = absurd (omega (arith, ap wait-number e))
+waits-store (Cmpx r v k) e = absurd (omega (arith, ap wait-number e))
+waits-store Wfence e = absurd (omega (arith, ap wait-number e))
 
--- FENCE and XCHG wait until the buffer is empty, and no other
+-- FENCE, XCHG and CMPX wait until the buffer is empty, and no other
 drain-waits : (i : Instr) → Drains i → wait-of i ≡ UntilEmpty
 unfolding wait-of
 drain-waits i (inl e) = ap wait-of e
-drain-waits i (inr (r, v, e)) = ap wait-of e
+drain-waits i (inr (inl (r, v, e))) = ap wait-of e
+drain-waits i (inr (inr (r, v, k, e))) = ap wait-of e
 
 waits-drain : (i : Instr) → wait-of i ≡ UntilEmpty → Drains i
 unfolding wait-of wait-number
@@ -145,9 +175,11 @@ waits-drain (Add r k) e = absurd (omega (arith, ap wait-number e))
 waits-drain (Load r v) e = absurd (omega (arith, ap wait-number e))
 waits-drain (Store a v) e = absurd (omega (arith, ap wait-number e))
 waits-drain Fence e = inl refl
-waits-drain (Xchg r v) e = inr (r, v, refl)
+waits-drain (Xchg r v) e = inr (inl (r, v, refl))
 waits-drain (Jeq r p k) e = absurd (omega (arith, ap wait-number e))
 waits-drain (Jmp p) e = absurd (omega (arith, ap wait-number e))
+waits-drain (Cmpx r v k) e = inr (inr (r, v, k, refl))
+waits-drain Wfence e = absurd (omega (arith, ap wait-number e))
 
 model-number : Model → ℕ
 model-number Sc = 0
@@ -185,8 +217,8 @@ module _ (j : Job) (x : State) where
   Executing t NoSuchStep = length (j .threads) ≤ t
   Executing t ThreadEnded = length (getD (j .threads) t []) ≤ place t x
   Executing t BufferFull =
-      (i : Instr) × (instruction-at j t (place t x) ≡ some i) × Stores i × (¬ (j .model ≡ Sc)) × (j .capacity ≤ length (buffer t x))
-  Executing t BufferNotEmpty = (i : Instr) × (instruction-at j t (place t x) ≡ some i) × Drains i × (¬ (buffer t x ≡ []))
+      (i : Instr) × (instruction-at j t (place t x) ≡ some i) × Stores i × (¬ (j .model ≡ Sc)) × (j .capacity ≤ length (pending t x))
+  Executing t BufferNotEmpty = (i : Instr) × (instruction-at j t (place t x) ≡ some i) × Drains i × (¬ (pending t x ≡ []))
   Executing t NothingToFlush = ⊥
   Executing t NotTheOldest = ⊥
 
@@ -196,8 +228,8 @@ module _ (j : Job) (x : State) where
   Flushing t v ThreadEnded = ⊥
   Flushing t v BufferFull = ⊥
   Flushing t v BufferNotEmpty = ⊥
-  Flushing t v NothingToFlush = (j .model ≡ Sc) ⊎ (¬ (PendingTo v (buffer t x)))
-  Flushing t v NotTheOldest = (j .model ≡ Tso) × PendingTo v (buffer t x) × (¬ (OldestTo v (buffer t x)))
+  Flushing t v NothingToFlush = (j .model ≡ Sc) ⊎ (¬ (PendingTo v (pending t x)))
+  Flushing t v NotTheOldest = PendingTo v (pending t x) × Behind (j .model) v (pending t x)
 
   -- and for a number above 35
   abbrev Beyond : Reason → Type 0
@@ -234,36 +266,36 @@ module _ (j : Job) (x : State) where
     unfolding wait-number
     no-drain w e n h = n (same-wait w UntilEmpty e (h .0) (h .1) (drain-waits (h .0) (h .2)))
 
-    judged-wait : (w : Wait) → wait-of i ≡ w → Judged (Executing t) (free (j .model) (j .capacity) w (buffer t x))
+    judged-wait : (w : Wait) → wait-of i ≡ w → Judged (Executing t) (free (j .model) (j .capacity) w (pending t x))
     unfolding free wait-number
     judged-wait Never e =
         none-executing t
         (none-below-next (Executing t) BufferNotEmpty
         (none-below-next (Executing t) BufferFull not-ended (no-store Never e (λ d. omega arith)))
         (no-drain Never e (λ d. omega arith)))
-    judged-wait ForRoom e = which (has-room (j .model) (j .capacity) (buffer t x)) refl
+    judged-wait ForRoom e = which (has-room (j .model) (j .capacity) (pending t x)) refl
       where
-        which : (b : Bool) → has-room (j .model) (j .capacity) (buffer t x) ≡ b → Judged (Executing t) (needs b BufferFull)
+        which : (b : Bool) → has-room (j .model) (j .capacity) (pending t x) ≡ b → Judged (Executing t) (needs b BufferFull)
         which true room =
             none-executing t
             (none-below-next (Executing t) BufferNotEmpty
             (none-below-next (Executing t) BufferFull not-ended (λ h. omega (arith, with-room _ _ _ room (h .3), h .4)))
             (no-drain ForRoom e (λ d. omega arith)))
-        which false full = let h = without-room (j .model) (j .capacity) (buffer t x) full in ((i, at, waits-store i e, h .0, h .1), not-ended)
-    judged-wait UntilEmpty e = which (is-empty (buffer t x)) refl
+        which false full = let h = without-room (j .model) (j .capacity) (pending t x) full in ((i, at, waits-store i e, h .0, h .1), not-ended)
+    judged-wait UntilEmpty e = which (is-empty (pending t x)) refl
       where
         not-full : NoneBelow (Executing t) 4
         not-full = none-below-next (Executing t) BufferFull not-ended (no-store UntilEmpty e (λ d. omega arith))
 
-        which : (b : Bool) → is-empty (buffer t x) ≡ b → Judged (Executing t) (needs b BufferNotEmpty)
-        which true empty = none-executing t (none-below-next (Executing t) BufferNotEmpty not-full (λ h. h .3 (empty-is (buffer t x) empty)))
-        which false some-pending = ((i, at, waits-drain i e, not-empty (buffer t x) some-pending), not-full)
+        which : (b : Bool) → is-empty (pending t x) ≡ b → Judged (Executing t) (needs b BufferNotEmpty)
+        which true empty = none-executing t (none-below-next (Executing t) BufferNotEmpty not-full (λ h. h .3 (empty-is (pending t x) empty)))
+        which false some-pending = ((i, at, waits-drain i e, not-empty (pending t x) some-pending), not-full)
 
   judged-execute : (t : ℕ) → Judged (Executing t) (may-execute-of j t x)
   unfolding may-execute
   judged-execute t = which (decLt t (length (j .threads)))
     where
-      by-place : t < length (j .threads) → (o : Option Instr) → instruction-at j t (place t x) ≡ o → Judged (Executing t) (may-execute (j .model) (j .capacity) o (buffer t x))
+      by-place : t < length (j .threads) → (o : Option Instr) → instruction-at j t (place t x) ≡ o → Judged (Executing t) (may-execute (j .model) (j .capacity) o (pending t x))
       by-place there none e = (ended (decLt (place t x) (length (getD (j .threads) t []))), none-below-next (Executing t) NoSuchStep (none-below-one (Executing t)) (λ beyond. omega arith))
         where
           ended : Dec (place t x < length (getD (j .threads) t [])) → length (getD (j .threads) t []) ≤ place t x
@@ -281,31 +313,40 @@ module _ (j : Job) (x : State) where
 
   module _ (t v : ℕ) where
     -- with a store to v pending there is something to flush, but under SC
-    not-nothing : is-pending-to v (buffer t x) ≡ true → ¬ (j .model ≡ Sc) → ¬ (Flushing t v NothingToFlush)
+    not-nothing : is-pending-to v (pending t x) ≡ true → ¬ (j .model ≡ Sc) → ¬ (Flushing t v NothingToFlush)
     not-nothing p buffered (inl sc) = buffered sc
-    not-nothing p buffered (inr none-pending) = none-pending (pending-to v (buffer t x) p)
+    not-nothing p buffered (inr none-pending) = none-pending (pending-to v (pending t x) p)
 
-    judged-model : NoneBelow (Flushing t v) 5 → (m : Model) → j .model ≡ m → Judged (Flushing t v) (may-flush m v (buffer t x))
+    -- with buffers: first whether a store to v is pending, then whether it is behind
+    judged-pending :
+        NoneBelow (Flushing t v) 5 → ¬ (j .model ≡ Sc) → (c : Bool) →
+        (c ≡ true → ¬ (Behind (j .model) v (pending t x))) → (c ≡ false → Behind (j .model) v (pending t x)) →
+        Judged (Flushing t v) (needs (is-pending-to v (pending t x)) NothingToFlush then needs c NotTheOldest)
+    judged-pending low buffered c not-behind is-behind = which (is-pending-to v (pending t x)) c refl refl
+      where
+        some-pending : is-pending-to v (pending t x) ≡ true → NoneBelow (Flushing t v) 6
+        some-pending p = none-below-next (Flushing t v) NothingToFlush low (not-nothing p buffered)
+
+        which : (a d : Bool) → is-pending-to v (pending t x) ≡ a → c ≡ d → Judged (Flushing t v) (needs a NothingToFlush then needs d NotTheOldest)
+        which false d p o = (inr (not-pending-to v (pending t x) p), low)
+        which true true p o = none-at-all (Flushing t v) (none-below-next (Flushing t v) NotTheOldest (some-pending p) (λ h. not-behind o (h .1)))
+        which true false p o = ((pending-to v (pending t x) p, is-behind o), some-pending p)
+
+    judged-model : NoneBelow (Flushing t v) 5 → (m : Model) → j .model ≡ m → Judged (Flushing t v) (may-flush m v (pending t x))
     unfolding may-flush model-number
     judged-model low Sc e = (inl e, low)
-    judged-model low Tso e = which (is-pending-to v (buffer t x)) (is-oldest-to v (buffer t x)) refl refl
+    judged-model low Tso e =
+        judged-pending low (λ d. omega (arith, ap model-number (sym e ∙ d))) (is-oldest-to v (pending t x)) not-behind (λ o. inl (e, not-oldest-to v (pending t x) o))
       where
-        some-pending : is-pending-to v (buffer t x) ≡ true → NoneBelow (Flushing t v) 6
-        some-pending p = none-below-next (Flushing t v) NothingToFlush low (not-nothing p (λ d. omega (arith, ap model-number (sym e ∙ d))))
-
-        which : (b c : Bool) → is-pending-to v (buffer t x) ≡ b → is-oldest-to v (buffer t x) ≡ c → Judged (Flushing t v) (needs b NothingToFlush then needs c NotTheOldest)
-        which false c p o = (inr (not-pending-to v (buffer t x) p), low)
-        which true true p o = none-at-all (Flushing t v) (none-below-next (Flushing t v) NotTheOldest (some-pending p) (λ h. h .2 (oldest-to-is v (buffer t x) o)))
-        which true false p o = ((e, pending-to v (buffer t x) p, not-oldest-to v (buffer t x) o), some-pending p)
-    judged-model low Pso e = which (is-pending-to v (buffer t x)) refl
+        not-behind : is-oldest-to v (pending t x) ≡ true → ¬ (Behind (j .model) v (pending t x))
+        not-behind o (inl h) = h .1 (oldest-to-is v (pending t x) o)
+        not-behind o (inr h) = omega (arith, ap model-number (sym e ∙ h .0))
+    judged-model low Pso e =
+        judged-pending low (λ d. omega (arith, ap model-number (sym e ∙ d))) (is-in-oldest-group v (pending t x)) not-behind (λ o. inr (e, not-in-oldest-group v (pending t x) o))
       where
-        which : (b : Bool) → is-pending-to v (buffer t x) ≡ b → Judged (Flushing t v) (needs b NothingToFlush)
-        which false p = (inr (not-pending-to v (buffer t x) p), low)
-        which true p =
-            none-at-all (Flushing t v)
-            (none-below-next (Flushing t v) NotTheOldest
-            (none-below-next (Flushing t v) NothingToFlush low (not-nothing p (λ d. omega (arith, ap model-number (sym e ∙ d)))))
-            (λ h. omega (arith, ap model-number (sym e ∙ h .0))))
+        not-behind : is-in-oldest-group v (pending t x) ≡ true → ¬ (Behind (j .model) v (pending t x))
+        not-behind o (inl h) = omega (arith, ap model-number (sym e ∙ h .0))
+        not-behind o (inr h) = h .1 (in-oldest-group v (pending t x) o)
 
     judged-flush : Judged (Flushing t v) (may-flush-of j t v x)
     judged-flush = which (decLt t (length (j .threads))) (decLt v (length (j .initial)))
@@ -348,7 +389,7 @@ module _ (j : Job) (x : State) where
     applies-executing BufferFull (u, (e, i, at, w), n, h) = rw (e .1) (i, at, w, n, h)
     applies-executing BufferNotEmpty (u, (e, i, at, w), h) = rw (e .1) (i, at, w, h)
     applies-executing NothingToFlush (u, v, f, h) = absurd (omega (arith, f .2))
-    applies-executing NotTheOldest (u, v, f, m, p, o) = absurd (omega (arith, f .2))
+    applies-executing NotTheOldest (u, v, f, p, o) = absurd (omega (arith, f .2))
 
   module _ (s t v : ℕ) (is : Flushes s t v) where
     same-thread : (u w : ℕ) → Flushes s u w → (u ≡ t) × (w ≡ v)
@@ -360,7 +401,7 @@ module _ (j : Job) (x : State) where
     flushing-applies BufferFull h = absurd h
     flushing-applies BufferNotEmpty h = absurd h
     flushing-applies NothingToFlush h = (t, v, is, h)
-    flushing-applies NotTheOldest h = (t, v, is, h .0, h .1, h .2)
+    flushing-applies NotTheOldest h = (t, v, is, h .0, h .1)
 
     applies-flushing : (why : Reason) → Applies j s x why → Flushing t v why
     applies-flushing NoSuchStep (inl h) = absurd (omega (arith, is .0, is .1, is .2))
@@ -370,7 +411,7 @@ module _ (j : Job) (x : State) where
     applies-flushing BufferFull (u, (e, i, at, w), m, h) = absurd (omega (arith, is .2, e .0, e .1))
     applies-flushing BufferNotEmpty (u, (e, i, at, w), h) = absurd (omega (arith, is .2, e .0, e .1))
     applies-flushing NothingToFlush (u, w, f, h) = let d = same-thread u w f in rw (← d .0, ← d .1) h
-    applies-flushing NotTheOldest (u, w, f, m, p, o) = let d = same-thread u w f in rw (← d .0, ← d .1) (m, p, o)
+    applies-flushing NotTheOldest (u, w, f, p, o) = let d = same-thread u w f in rw (← d .0, ← d .1) (p, o)
 
   module _ (s : ℕ) (high : step-bound ≤ s) where
     beyond-applies : (why : Reason) → Beyond why → Applies j s x why
@@ -387,7 +428,7 @@ module _ (j : Job) (x : State) where
     applies-beyond BufferFull (u, (e, i, at, w), m, h) = absurd (omega (arith, e .0, e .1))
     applies-beyond BufferNotEmpty (u, (e, i, at, w), h) = absurd (omega (arith, e .0, e .1))
     applies-beyond NothingToFlush (u, v, f, h) = absurd (omega (arith, f .0, f .1, f .2))
-    applies-beyond NotTheOldest (u, v, f, m, p, o) = absurd (omega (arith, f .0, f .1, f .2))
+    applies-beyond NotTheOldest (u, v, f, p, o) = absurd (omega (arith, f .0, f .1, f .2))
 
   may-judged : (s : ℕ) → Judged (Applies j s x) (may j s x)
   unfolding flush-thread flush-variable

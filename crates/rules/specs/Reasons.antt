@@ -8,13 +8,14 @@ use Prim.Native.Nat.{ℕ, _+_, _*_, _≤_, _<_}
 use lib.ListN.{length, getD}
 use Rattle.reach.specs.Lists.{_∈_}
 use Rattle.rules.specs.Limits.{most-threads, most-variables, step-bound}
-use Rattle.rules.specs.State.{Pending, State, place, buffer}
+use Rattle.rules.specs.State.{Pending, State, place, pending}
 use Rattle.rules.specs.Job.{Job}
 use Rattle.rules.specs.Step.{instruction-at}
-use Rattle.rules.specs.declared.Model.the-variants.{Sc, Tso}
+use Rattle.rules.specs.declared.Model.{Model}
+use Rattle.rules.specs.declared.Model.the-variants.{Sc, Tso, Pso}
 use Rattle.rules.specs.declared.Source.{Source}
 use Rattle.rules.specs.declared.Instr.{Instr}
-use Rattle.rules.specs.declared.Instr.the-variants.{Store, Fence, Xchg}
+use Rattle.rules.specs.declared.Instr.the-variants.{Store, Fence, Xchg, Cmpx}
 use Rattle.rules.specs.declared.Reason.{Reason}
 use Rattle.rules.specs.declared.Reason.the-variants.{NoSuchStep, ThreadEnded, BufferFull, BufferNotEmpty, NothingToFlush, NotTheOldest}
 
@@ -41,12 +42,20 @@ PendingTo v b = (p : Pending) × (p ∈ b) × (p .variable ≡ v)
 abbrev pub OldestTo : ℕ → List Pending → Type 0
 OldestTo v b = (p : Pending) × (rest : List Pending) × (b ≡ p ∷ rest) × (p .variable ≡ v)
 
--- the instructions that wait: STORE and STOREK; FENCE and XCHG
+-- a store to v is pending in the oldest group: request 7, groups are "counted from 0 at the oldest group present"
+abbrev pub InOldestGroup : ℕ → List Pending → Type 0
+InOldestGroup v b = (p : Pending) × (p ∈ b) × (p .variable ≡ v) × (p .group ≡ 0)
+
+-- no pending store to v may be the next to flush: under TSO none is the oldest, under PSO none is in the oldest group
+abbrev pub Behind : Model → ℕ → List Pending → Type 0
+Behind m v b = ((m ≡ Tso) × (¬ (OldestTo v b))) ⊎ ((m ≡ Pso) × (¬ (InOldestGroup v b)))
+
+-- the instructions that wait: STORE and STOREK; FENCE, XCHG and CMPX
 abbrev pub Stores : Instr → Type 0
 Stores i = (a : Source) × (v : ℕ) × (i ≡ Store a v)
 
 abbrev pub Drains : Instr → Type 0
-Drains i = (i ≡ Fence) ⊎ ((r : ℕ) × (v : ℕ) × (i ≡ Xchg r v))
+Drains i = (i ≡ Fence) ⊎ (((r : ℕ) × (v : ℕ) × (i ≡ Xchg r v)) ⊎ ((r : ℕ) × (v : ℕ) × (k : ℕ) × (i ≡ Cmpx r v k)))
 
 module _ (j : Job) (s : ℕ) (x : State) where
   -- "numbers above 35, threads from T up and variables from V up"
@@ -66,19 +75,19 @@ module _ (j : Job) (s : ℕ) (x : State) where
 
   -- "TSO and PSO: a store with C pending; never under SC"
   abbrev pub IsFull : Type 0
-  IsFull = (t : ℕ) × StandsAt t Stores × (¬ (j .model ≡ Sc)) × (j .capacity ≤ length (buffer t x))
+  IsFull = (t : ℕ) × StandsAt t Stores × (¬ (j .model ≡ Sc)) × (j .capacity ≤ length (pending t x))
 
-  -- "FENCE, XCHG"
+  -- "FENCE, XCHG"; request 7: "FENCE, XCHG and CMPX (empty buffer)"
   abbrev pub IsNotEmpty : Type 0
-  IsNotEmpty = (t : ℕ) × StandsAt t Drains × (¬ (buffer t x ≡ []))
+  IsNotEmpty = (t : ℕ) × StandsAt t Drains × (¬ (pending t x ≡ []))
 
   -- "no pending store of t to v; under SC always"
   abbrev pub HasNothing : Type 0
-  HasNothing = (t : ℕ) × (v : ℕ) × Flushes s t v × ((j .model ≡ Sc) ⊎ (¬ (PendingTo v (buffer t x))))
+  HasNothing = (t : ℕ) × (v : ℕ) × Flushes s t v × ((j .model ≡ Sc) ⊎ (¬ (PendingTo v (pending t x))))
 
-  -- "TSO: there is one to v, but the oldest is to another"
+  -- "TSO: there is one to v, but the oldest is to another"; request 7: under PSO "pending in a later group only"
   abbrev pub IsBehind : Type 0
-  IsBehind = (t : ℕ) × (v : ℕ) × Flushes s t v × (j .model ≡ Tso) × PendingTo v (buffer t x) × (¬ (OldestTo v (buffer t x)))
+  IsBehind = (t : ℕ) × (v : ℕ) × Flushes s t v × PendingTo v (pending t x) × Behind (j .model) v (pending t x)
 
   -- when each reason applies
   abbrev pub Applies : Reason → Type 0

@@ -1,17 +1,22 @@
 -- The bytes of a slot stand for one state: as many as a slot has, each a byte, and two well-formed states with the same bytes are equal.
-use mathlib.Core.Path.{_≡_, refl, sym, ap₂, _∙_}
+use mathlib.Core.Path.{_≡_, refl, sym, ap₂, subst, _∙_}
+use mathlib.Core.Bool.{Bool, true, false}
 use mathlib.Core.List.{List, [], _∷_, _++_, append-assoc}
-use Prim.Native.Nat.{ℕ, _-_, _*_, _≤_, _<_}
+use Prim.Native.Nat.{ℕ, _+_, _-_, _*_, _≤_, _<_}
 use native.Mathlib.Omega.{arith}
 use lib.ListN.{length, replicate, length-append, length-replicate}
 use Rattle.reach.specs.Lists.{All}
 use Rattle.reach.specs.ListLaws.{all-imp, all-append, all-replicate, all-getD, append-equal, all-by-getD}
-use Rattle.rules.specs.Limits.{byte-values, pairs-size, buffer-size, slot-size, longest-thread}
-use Rattle.rules.specs.State.{Pending, State, place}
+use Rattle.rules.specs.Limits.{byte-values, most-pending, group-unit, mark-unit, pairs-size, buffer-size, slot-size, longest-thread}
+use Rattle.rules.specs.State.{Pending, Buffer, State, place}
 use Rattle.rules.specs.Job.{Job}
-use Rattle.rules.specs.Slot.{pair-bytes, buffer-bytes, buffers-bytes, slot-bytes}
-use Rattle.rules.specs.Sound.{JobIn, BufferIn, WellFormed}
+use Rattle.rules.specs.Slot.{variable-byte, pair-bytes, mark-byte, buffer-bytes, buffers-bytes, slot-bytes}
+use Rattle.rules.specs.Sound.{JobIn, InOrder, BufferIn, WellFormed}
+use Rattle.rules.specs.Step.{newest-group, joined-group}
+use Rattle.rules.specs.BufferLaws.{joined-most, groups-most}
 use Rattle.rules.specs.Keeps.{Fits, buffer-fits, buffers-fit}
+use Rattle.rules.specs.declared.Model.{Model}
+use Rattle.rules.specs.declared.Model.the-variants.{Sc, Tso, Pso}
 
 -- a byte of a slot
 abbrev pub Byte : ℕ → Type 0
@@ -24,66 +29,128 @@ unfolding pair-bytes
 pair-bytes-number [] = refl
 pair-bytes-number (p ∷ b) = omega (arith, pair-bytes-number b)
 
-pair-bytes-equal : (b c : List Pending) → length b ≡ length c → pair-bytes b ≡ pair-bytes c → b ≡ c
+-- a variable byte is group and variable, as long as there are no more variables than a group has room for
+abbrev pub Named : Pending → Type 0
+Named p = p .variable < group-unit
+
+pair-bytes-equal : (b c : List Pending) → All Named b → All Named c → length b ≡ length c → pair-bytes b ≡ pair-bytes c → b ≡ c
 unfolding pair-bytes
-pair-bytes-equal [] [] n e = refl
-pair-bytes-equal [] (q ∷ c) n e = absurd (omega arith)
-pair-bytes-equal (p ∷ b) [] n e = absurd (omega arith)
-pair-bytes-equal (p ∷ b) (q ∷ c) n e =
-    let v : p .variable ≡ q .variable = cc in
-    let k : p .value ≡ q .value = cc in
-    let r : b ≡ c = pair-bytes-equal b c (omega arith) (cc) in
-    λ i. record { variable = v i; value = k i } ∷ r i
+pair-bytes-equal [] [] h k n e = refl
+pair-bytes-equal [] (q ∷ c) h k n e = absurd (omega arith)
+pair-bytes-equal (p ∷ b) [] h k n e = absurd (omega arith)
+pair-bytes-equal (p ∷ b) (q ∷ c) h k n e =
+    let byte : variable-byte p ≡ variable-byte q = cc in
+    let g : p .group ≡ q .group = omega (arith, byte, h .0, k .0) in
+    let v : p .variable ≡ q .variable = omega (arith, byte, h .0, k .0) in
+    let value : p .value ≡ q .value = cc in
+    let r : b ≡ c = pair-bytes-equal b c (h .1) (k .1) (omega arith) (cc) in
+    λ i. record { group = g i; variable = v i; value = value i } ∷ r i
 
 abbrev unused-pairs : List Pending → List ℕ
 unused-pairs b = replicate (pairs-size - length (pair-bytes b)) 0
 
-buffer-bytes-equal : (b c : List Pending) → buffer-bytes b ≡ buffer-bytes c → b ≡ c
-unfolding buffer-bytes
-buffer-bytes-equal b c e =
-    let count : length b ≡ length c = cc in
-    let pairs : pair-bytes b ++ unused-pairs b ≡ pair-bytes c ++ unused-pairs c = cc in
-    let number : length (pair-bytes b) ≡ length (pair-bytes c) = omega (arith, pair-bytes-number b, pair-bytes-number c) in
-    pair-bytes-equal b c count (append-equal (pair-bytes b) (pair-bytes c) (unused-pairs b) (unused-pairs c) number pairs .0)
+-- a count byte is mark and count, as long as there are no more stores than pairs
+count-bytes-equal : (m n : Bool) (k l : ℕ) → k ≤ most-pending → l ≤ most-pending → mark-byte m + k ≡ mark-byte n + l → (m ≡ n) × (k ≡ l)
+count-bytes-equal true true k l h i e = (refl, omega arith)
+count-bytes-equal true false k l h i e = absurd (omega arith)
+count-bytes-equal false true k l h i e = absurd (omega arith)
+count-bytes-equal false false k l h i e = (refl, omega arith)
 
-buffer-bytes-number : (b : List Pending) → Fits b → length (buffer-bytes b) ≡ buffer-size
+-- no more stores than pairs, and each to one of the variables
+pub record Writable (b : Buffer) : Type 0 where
+  pub fits : Fits b
+  pub named : All Named (b .pending)
+
+buffer-bytes-equal : (b c : Buffer) → Writable b → Writable c → buffer-bytes b ≡ buffer-bytes c → b ≡ c
+unfolding buffer-bytes
+buffer-bytes-equal b c h k e =
+    let byte : mark-byte (b .marked) + length (b .pending) ≡ mark-byte (c .marked) + length (c .pending) = cc in
+    let pairs : pair-bytes (b .pending) ++ unused-pairs (b .pending) ≡ pair-bytes (c .pending) ++ unused-pairs (c .pending) = cc in
+    let count = count-bytes-equal (b .marked) (c .marked) (length (b .pending)) (length (c .pending)) (h .fits) (k .fits) byte in
+    let number : length (pair-bytes (b .pending)) ≡ length (pair-bytes (c .pending)) =
+    omega (arith, count .1, pair-bytes-number (b .pending), pair-bytes-number (c .pending)) in
+    let stores =
+    pair-bytes-equal (b .pending) (c .pending) (h .named) (k .named) (count .1)
+    (append-equal (pair-bytes (b .pending)) (pair-bytes (c .pending)) (unused-pairs (b .pending)) (unused-pairs (c .pending)) number pairs .0) in
+    λ i. record { pending = stores i; marked = count .0 i }
+
+buffer-bytes-number : (b : Buffer) → Fits b → length (buffer-bytes b) ≡ buffer-size
 unfolding buffer-bytes
 buffer-bytes-number b h =
-    let padded = length-append (pair-bytes b) (unused-pairs b) in
-    omega (arith, padded, length-replicate {A = ℕ} (pairs-size - length (pair-bytes b)) 0, pair-bytes-number b)
+    let padded = length-append (pair-bytes (b .pending)) (unused-pairs (b .pending)) in
+    omega (arith, padded, length-replicate {A = ℕ} (pairs-size - length (pair-bytes (b .pending))) 0, pair-bytes-number (b .pending))
 
-buffers-bytes-number : (l : List (List Pending)) → All Fits l → length (buffers-bytes l) ≡ buffer-size * length l
+buffers-bytes-number : (l : List Buffer) → All Fits l → length (buffers-bytes l) ≡ buffer-size * length l
 unfolding buffers-bytes
 buffers-bytes-number [] h = refl
 buffers-bytes-number (b ∷ l) h = simp length-append (omega (arith, buffer-bytes-number b (h .0), buffers-bytes-number l (h .1)))
 
-buffers-bytes-equal : (l m : List (List Pending))
-    → length l ≡ length m → All Fits l → All Fits m → buffers-bytes l ≡ buffers-bytes m → l ≡ m
+buffers-bytes-equal : (l m : List Buffer)
+    → length l ≡ length m → All Writable l → All Writable m → buffers-bytes l ≡ buffers-bytes m → l ≡ m
 unfolding buffers-bytes
 buffers-bytes-equal [] [] n h k e = refl
 buffers-bytes-equal [] (c ∷ m) n h k e = absurd (omega arith)
 buffers-bytes-equal (b ∷ l) [] n h k e = absurd (omega arith)
 buffers-bytes-equal (b ∷ l) (c ∷ m) n h k e =
-    let number = buffer-bytes-number b (h .0) ∙ sym (buffer-bytes-number c (k .0)) in
+    let number = buffer-bytes-number b (h .0 .fits) ∙ sym (buffer-bytes-number c (k .0 .fits)) in
     let parts = append-equal (buffer-bytes b) (buffer-bytes c) (buffers-bytes l) (buffers-bytes m) number e in
-    ap₂ {C = List (List Pending)} _∷_ (buffer-bytes-equal b c (parts .0)) (buffers-bytes-equal l m (omega arith) (h .1) (k .1) (parts .1))
+    ap₂ {C = List Buffer} _∷_ (buffer-bytes-equal b c (h .0) (k .0) (parts .0)) (buffers-bytes-equal l m (omega arith) (h .1) (k .1) (parts .1))
 
-pair-bytes-values : (b : List Pending) → All (λ p. Byte (p .variable)) b → All (λ p. Byte (p .value)) b → All Byte (pair-bytes b)
+pair-bytes-values : (b : List Pending) → All (λ p. Byte (variable-byte p)) b → All (λ p. Byte (p .value)) b → All Byte (pair-bytes b)
 unfolding pair-bytes
 pair-bytes-values [] h k = tt
 pair-bytes-values (p ∷ b) h k = (h .0, (k .0, pair-bytes-values b (h .1) (k .1)))
 
-module _ (j : Job) (ok : JobIn j) where
-  buffer-bytes-values : (b : List Pending) → BufferIn j b → All Byte (buffer-bytes b)
-  unfolding buffer-bytes
-  buffer-bytes-values b h = (
-    omega (arith, buffer-fits j ok b h),
-    all-append Byte (pair-bytes b) _
-        (pair-bytes-values b (all-imp _ _ (λ p k. omega arith) b (h .variables)) (h .values-in))
-        (all-replicate Byte (pairs-size - length (pair-bytes b)) 0 (omega arith)),
-  )
+-- groups are counted from 0, so there are no more than stores
+pub groups-few : (m : Model) (b : List Pending) → InOrder m b → length b ≤ most-pending → All (λ p. p .group < most-pending) b
+groups-few Sc b h few = subst (All (λ p. p .group < most-pending)) (sym h) tt
+groups-few Tso b h few = all-imp _ _ (λ p e. omega (arith, e)) b h
+groups-few Pso b h few = all-imp _ _ (λ p l. omega (arith, l, few)) b (groups-most 0 b (h .1))
 
-  buffers-bytes-values : (l : List (List Pending)) → All (BufferIn j) l → All Byte (buffers-bytes l)
+both-all : {A : Type 0} (P Q R : A → Type 0) → ((a : A) → P a → Q a → R a) → (l : List A) → All P l → All Q l → All R l
+both-all P Q R f [] h k = tt
+both-all P Q R f (a ∷ l) h k = (f a (h .0) (k .0), both-all P Q R f l (h .1) (k .1))
+
+newest-few : (n g : ℕ) (b : List Pending) → g < n → All (λ p. p .group < n) b → newest-group g b < n
+unfolding newest-group
+newest-few n g [] low h = low
+newest-few n g (p ∷ b) low h = newest-few n (p .group) b (h .0) (h .1)
+
+mark-byte-most : (m : Bool) → mark-byte m ≤ mark-unit
+mark-byte-most true = omega arith
+mark-byte-most false = omega arith
+
+module _ (j : Job) (ok : JobIn j) where
+  pub buffer-writable : (b : Buffer) → BufferIn j b → Writable b
+  buffer-writable b h =
+      record {
+        fits = buffer-fits j ok b h;
+        named = all-imp _ _ (λ p k. omega (arith, k, ok .variables-most)) (b .pending) (h .variables);
+      }
+
+  -- so the group that a store joins has room in its byte
+  pub group-fits : (b : Buffer) → BufferIn j b → joined-group b < group-unit
+  group-fits b h =
+      let newest =
+      newest-few most-pending 0 (b .pending) (omega arith) (groups-few (j .model) (b .pending) (h .order) (buffer-fits j ok b h)) in
+      omega (arith, newest, joined-most b .1)
+
+  pub buffers-writable : (x : State) → WellFormed j x → All Writable (x .buffers)
+  buffers-writable x w = all-imp (BufferIn j) Writable buffer-writable (x .buffers) (w .buffers)
+
+  buffer-bytes-values : (b : Buffer) → BufferIn j b → All Byte (buffer-bytes b)
+  unfolding buffer-bytes
+  buffer-bytes-values b h =
+      let few = groups-few (j .model) (b .pending) (h .order) (buffer-fits j ok b h) in
+      let bytes =
+      both-all _ _ (λ p. Byte (variable-byte p)) (λ p g v. omega (arith, g, v, ok .variables-most)) (b .pending) few (h .variables) in (
+        omega (arith, buffer-fits j ok b h, mark-byte-most (b .marked)),
+        all-append Byte (pair-bytes (b .pending)) _
+            (pair-bytes-values (b .pending) bytes (h .values-in))
+            (all-replicate Byte (pairs-size - length (pair-bytes (b .pending))) 0 (omega arith)),
+      )
+
+  buffers-bytes-values : (l : List Buffer) → All (BufferIn j) l → All Byte (buffers-bytes l)
   unfolding buffers-bytes
   buffers-bytes-values [] h = tt
   buffers-bytes-values (b ∷ l) h =
@@ -113,5 +180,5 @@ module _ (j : Job) (ok : JobIn j) where
       let r = append-equal (x .registers) (y .registers) _ _ (u .registers-number ∙ sym (w .registers-number)) (p .1) in
       let m = append-equal (x .memory) (y .memory) _ _ (u .memory-number ∙ sym (w .memory-number)) (r .1) in
       let n = u .buffers-number ∙ sym (w .buffers-number) in
-      let b = buffers-bytes-equal (x .buffers) (y .buffers) n (buffers-fit j ok x u) (buffers-fit j ok y w) (m .1) in
+      let b = buffers-bytes-equal (x .buffers) (y .buffers) n (buffers-writable x u) (buffers-writable y w) (m .1) in
       λ i. record { places = p .0 i; registers = r .0 i; memory = m .0 i; buffers = b i }

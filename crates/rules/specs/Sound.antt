@@ -1,18 +1,19 @@
 -- What holds of every job whose bytes are accepted, and of every state that such a job reaches.
 use mathlib.Core.Path.{_≡_}
-use mathlib.Core.List.{List, []}
-use Prim.Native.Nat.{ℕ, _≤_, _<_}
+use mathlib.Core.Bool.{false}
+use mathlib.Core.List.{List, [], _∷_}
+use Prim.Native.Nat.{ℕ, suc, _≤_, _<_}
 use lib.ListN.{length, getD}
 use Rattle.reach.specs.Lists.{All, Pairwise}
 use Rattle.rules.specs.Limits.{most-threads, most-variables, registers-each, all-registers, values, longest-thread, most-pending, fewest-clauses, most-clauses}
-use Rattle.rules.specs.State.{Pending, State, place, register, variable, buffer}
+use Rattle.rules.specs.State.{Pending, Buffer, empty-buffer, State, place, register, variable, buffer}
 use Rattle.rules.specs.Job.{Job}
 use Rattle.rules.specs.declared.Model.{Model}
 use Rattle.rules.specs.declared.Model.the-variants.{Sc, Tso, Pso}
 use Rattle.rules.specs.declared.Source.{Source}
 use Rattle.rules.specs.declared.Source.the-variants.{Register, Constant}
 use Rattle.rules.specs.declared.Instr.{Instr}
-use Rattle.rules.specs.declared.Instr.the-variants.{Set, Add, Load, Store, Fence, Xchg, Jeq, Jmp}
+use Rattle.rules.specs.declared.Instr.the-variants.{Set, Add, Load, Store, Fence, Xchg, Jeq, Jmp, Cmpx, Wfence}
 use Rattle.rules.specs.declared.Clause.{Clause}
 use Rattle.rules.specs.declared.Clause.the-variants.{PlaceIs, RegisterIs, MemoryIs}
 
@@ -30,6 +31,8 @@ InstrIn vars n Fence = Unit {0}
 InstrIn vars n (Xchg r v) = (r < registers-each) × (v < vars)
 InstrIn vars n (Jeq r p k) = (r < registers-each) × (p ≤ n) × (k < values)
 InstrIn vars n (Jmp p) = p ≤ n
+InstrIn vars n (Cmpx r v k) = (r < registers-each) × (v < vars) × (k < values)
+InstrIn vars n Wfence = Unit {0}
 
 abbrev pub ClauseIn : (vars : ℕ) → List (List Instr) → Clause → Type 0
 ClauseIn vars threads (PlaceIs t p) = (t < length threads) × (p ≤ length (getD threads t []))
@@ -56,19 +59,35 @@ pub record JobIn (j : Job) : Type 0 where
   pub clauses-most : length (j .clauses) ≤ most-clauses
   pub clauses : All (ClauseIn (length (j .initial)) (j .threads)) (j .clauses)
 
--- Under PSO "Pending stores are kept by variable number". Under SC nothing is pending.
+-- "Pairs stand by group, then by variable"
+abbrev pub StandsBefore : Pending → Pending → Type 0
+StandsBefore p q = (p .group ≤ q .group) × (p .group ≡ q .group → p .variable ≤ q .variable)
+
+-- groups are counted one after another: the first is at most g, each other at most one more than the one before
+abbrev pub NoGap : ℕ → List Pending → Type 0
+NoGap g [] = Unit {0}
+NoGap g (p ∷ b) = (p .group ≤ g) × NoGap (suc (p .group)) b
+
+-- Under SC nothing is pending. Under TSO there is one group. Under PSO pairs are in order, and groups are counted from 0.
 abbrev pub InOrder : Model → List Pending → Type 0
 InOrder Sc b = b ≡ []
-InOrder Tso b = Unit {0}
-InOrder Pso b = Pairwise (λ p q. p .variable ≤ q .variable) b
+InOrder Tso b = All (λ p. p .group ≡ 0) b
+InOrder Pso b = Pairwise StandsBefore b × NoGap 0 b
 
-pub record BufferIn (j : Job) (b : List Pending) : Type 0 where
-  pub count : length b ≤ j .capacity
-  pub variables : All (λ p. p .variable < length (j .initial)) b
-  pub values-in : All (λ p. p .value < values) b
-  pub order : InOrder (j .model) b
+-- Only under PSO does a WFENCE stand after the newest store, and only where there is one.
+abbrev pub MarkIn : Model → Buffer → Type 0
+MarkIn Sc b = b .marked ≡ false
+MarkIn Tso b = b .marked ≡ false
+MarkIn Pso b = b .pending ≡ [] → b .marked ≡ false
 
--- places at most n, counts at most C, unused parts 0, PSO pairs in order
+pub record BufferIn (j : Job) (b : Buffer) : Type 0 where
+  pub count : length (b .pending) ≤ j .capacity
+  pub variables : All (λ p. p .variable < length (j .initial)) (b .pending)
+  pub values-in : All (λ p. p .value < values) (b .pending)
+  pub order : InOrder (j .model) (b .pending)
+  pub mark : MarkIn (j .model) b
+
+-- places at most n, counts at most C, unused parts 0, PSO pairs in order, groups counted, no mark without a store
 pub record WellFormed (j : Job) (x : State) : Type 0 where
   pub places-number : length (x .places) ≡ most-threads
   pub registers-number : length (x .registers) ≡ all-registers
@@ -80,4 +99,4 @@ pub record WellFormed (j : Job) (x : State) : Type 0 where
   pub memory : All (λ k. k < values) (x .memory)
   pub memory-unused : (v : ℕ) → length (j .initial) ≤ v → variable v x ≡ 0
   pub buffers : All (BufferIn j) (x .buffers)
-  pub buffers-unused : (t : ℕ) → length (j .threads) ≤ t → buffer t x ≡ []
+  pub buffers-unused : (t : ℕ) → length (j .threads) ≤ t → buffer t x ≡ empty-buffer

@@ -1,5 +1,5 @@
--- One step of the machine under each model, and why it can't be taken: 01, "The machine" and "Memory rules", and request 5. Rules i to vii are those of source document 003, of a TSO buffer; under SC and PSO 01 changes iv and v.
-use mathlib.Core.Bool.{Bool, true, false, cond, _&&_, _||_}
+-- One step of the machine under each model, and why it can't be taken: 01, "The machine" and "Memory rules", and requests 5 and 7. Rules i to vii are those of source document 003, of a TSO buffer; under SC and PSO 01 changes iv and v.
+use mathlib.Core.Bool.{Bool, true, false, cond, not, _&&_, _||_}
 use mathlib.Core.List.{List, [], _∷_, _++_}
 use mathlib.Core.Option.{Option, none, some}
 use Prim.Native.Nat.{ℕ, zero, suc, _+_, _-_, _/_, _%_, _^_}
@@ -8,7 +8,7 @@ use lib.ListN.{length, getElem?}
 use Rattle.reach.specs.System.{andThen}
 use Rattle.reach.specs.Explained.{Stepped, gives, withheld, forget}
 use Rattle.rules.specs.Limits.{values, most-threads, most-variables, step-bound}
-use Rattle.rules.specs.State.{Pending, State, place, register, variable, buffer, with-place, with-register, with-variable, with-buffer}
+use Rattle.rules.specs.State.{Pending, Buffer, State, place, register, variable, buffer, pending, with-place, with-register, with-variable, with-buffer}
 use Rattle.rules.specs.Job.{Job}
 use Rattle.rules.specs.Kinds.{control-of, wait-of}
 use Rattle.rules.specs.declared.Model.{Model}
@@ -16,7 +16,7 @@ use Rattle.rules.specs.declared.Model.the-variants.{Sc, Tso, Pso}
 use Rattle.rules.specs.declared.Source.{Source}
 use Rattle.rules.specs.declared.Source.the-variants.{Register, Constant}
 use Rattle.rules.specs.declared.Instr.{Instr}
-use Rattle.rules.specs.declared.Instr.the-variants.{Set, Add, Load, Store, Fence, Xchg, Jeq, Jmp}
+use Rattle.rules.specs.declared.Instr.the-variants.{Set, Add, Load, Store, Fence, Xchg, Jeq, Jmp, Cmpx, Wfence}
 use Rattle.rules.specs.declared.Control.{Control}
 use Rattle.rules.specs.declared.Control.the-variants.{On, To, ToIf}
 use Rattle.rules.specs.declared.Wait.{Wait}
@@ -31,17 +31,30 @@ abbrev pub given : {A : Type 0} → Bool → A → Option A
 given true a = some a
 given false a = none
 
--- The store buffer of a thread: its pending stores.
+-- The store buffer of a thread: its pending stores, under PSO in groups, and whether a WFENCE stands after the newest.
 
 -- "A load takes the newest pending store of its own thread to that variable, else memory": rules i and ii. Newest is last; `else` is memory's value.
 unfoldable pub newest : ℕ → ℕ → List Pending → ℕ
 newest v else [] = else
 newest v else (p ∷ b) = newest v (cond (eqb (p .variable) v) (p .value) else) b
 
--- PSO: "Pending stores are kept by variable number, oldest first within a variable": behind the last of its variable or a lower one
-unfoldable pub by-variable : Pending → List Pending → List Pending
-by-variable q [] = q ∷ []
-by-variable q (p ∷ b) = cond (leb (p .variable) (q .variable)) (p ∷ by-variable q b) (q ∷ p ∷ b)
+-- PSO: "Pairs stand by group, then by variable (oldest first within a variable, as before)". Does p, which is there already, stand before q, which joins?
+unfoldable pub stands-before : Pending → Pending → Bool
+stands-before p q = ltb (p .group) (q .group) || (eqb (p .group) (q .group) && leb (p .variable) (q .variable))
+
+-- q goes in behind the last that stands before it
+unfoldable pub in-its-place : Pending → List Pending → List Pending
+in-its-place q [] = q ∷ []
+in-its-place q (p ∷ b) = cond (stands-before p q) (p ∷ in-its-place q b) (q ∷ p ∷ b)
+
+-- the newest group, that of the last store (g where none is pending)
+unfoldable pub newest-group : ℕ → List Pending → ℕ
+newest-group g [] = g
+newest-group g (p ∷ b) = newest-group (p .group) b
+
+-- PSO: the group that a store joins. WFENCE "starts a new group".
+unfoldable pub joined-group : Buffer → ℕ
+joined-group b = cond (b .marked) (suc (newest-group 0 (b .pending))) (newest-group 0 (b .pending))
 
 -- "a flush takes the oldest pending store to a chosen variable": its value, and the stores that are left. (0 where none is pending to v.)
 unfoldable pub oldest-to : ℕ → List Pending → ℕ
@@ -55,6 +68,27 @@ without-oldest-to v (p ∷ b) = cond (eqb (p .variable) v) b (p ∷ without-olde
 unfoldable pub is-empty : List Pending → Bool
 is-empty [] = true
 is-empty (p ∷ b) = false
+
+-- "Groups are counted from the oldest present", which stands first: every number less by the first's
+unfoldable pub lowered : ℕ → List Pending → List Pending
+lowered g [] = []
+lowered g (p ∷ b) = record { group = p .group - g; variable = p .variable; value = p .value } ∷ lowered g b
+
+unfoldable pub counted : List Pending → List Pending
+counted [] = []
+counted (p ∷ b) = lowered (p .group) (p ∷ b)
+
+-- the buffer that a flush to v leaves; the mark "ends when .. the buffer empties"
+unfoldable pub flushed-buffer : ℕ → Buffer → Buffer
+flushed-buffer v b =
+    record {
+      pending = counted (without-oldest-to v (b .pending));
+      marked = b .marked && not (is-empty (without-oldest-to v (b .pending)));
+    }
+
+-- the buffer that a WFENCE leaves under PSO: "On an empty buffer WFENCE leaves nothing."
+unfoldable pub marked-buffer : Buffer → Buffer
+marked-buffer b = record { pending = b .pending; marked = not (is-empty (b .pending)) }
 
 -- Which steps may be taken, and why the others may not: decided here alone. Each reason stands beside the rule that withholds the step. That the
 -- reason given is the first that applies, in the request's order, is a theorem (`Reasons` `FirstThatApplies`, `ReasonLaws` `withheld-first`).
@@ -81,7 +115,7 @@ has-room Sc capacity b = true
 has-room Tso capacity b = ltb (length b) capacity
 has-room Pso capacity b = ltb (length b) capacity
 
--- What an instruction waits for in its thread's buffer. A store: "buffer full". FENCE and XCHG: "buffer not empty".
+-- What an instruction waits for in its thread's buffer. A store: "buffer full". FENCE, XCHG and CMPX: "buffer not empty".
 unfoldable pub free : Model → (capacity : ℕ) → Wait → List Pending → May
 free m capacity Never b = Yes
 free m capacity ForRoom b = needs (has-room m capacity b) BufferFull
@@ -102,12 +136,18 @@ unfoldable pub is-oldest-to : ℕ → List Pending → Bool
 is-oldest-to v [] = false
 is-oldest-to v (p ∷ b) = eqb (p .variable) v
 
--- SC: "No flush steps." TSO: "only the oldest store's v is enabled". PSO: "the oldest pending store to a chosen variable". "Ended threads still flush."
--- Where none is pending to v, as always under SC: "nothing to flush". Where one is, but behind another: "not the oldest".
+-- is a store to v pending in the oldest group, which `counted` has left at number 0?
+unfoldable pub is-in-oldest-group : ℕ → List Pending → Bool
+is-in-oldest-group v [] = false
+is-in-oldest-group v (p ∷ b) = (eqb (p .group) 0 && eqb (p .variable) v) || is-in-oldest-group v b
+
+-- SC: "No flush steps." TSO: "only the oldest store's v is enabled". PSO: "the oldest pending store to a chosen variable", and "only stores of
+-- the oldest group may flush". "Ended threads still flush." Where none is pending to v, as always under SC: "nothing to flush". Where one is,
+-- but under TSO behind another or under PSO in a later group only: "not the oldest".
 unfoldable pub may-flush : Model → ℕ → List Pending → May
 may-flush Sc v b = No NothingToFlush
 may-flush Tso v b = needs (is-pending-to v b) NothingToFlush then needs (is-oldest-to v b) NotTheOldest
-may-flush Pso v b = needs (is-pending-to v b) NothingToFlush
+may-flush Pso v b = needs (is-pending-to v b) NothingToFlush then needs (is-in-oldest-group v b) NotTheOldest
 
 -- What a step does, once it may be taken.
 
@@ -116,11 +156,22 @@ unfoldable pub carried : ℕ → State → Source → ℕ
 carried t x (Register r) = register t r x
 carried t x (Constant k) = k
 
--- a store: SC "straight to memory"; TSO "joins the end of its thread's buffer" (rule iv); PSO "kept by variable number"
+-- a store: SC "straight to memory"; TSO "joins the end of its thread's buffer" (rule iv); PSO in its place of the newest group, or of a new one.
+-- The mark "ends when a store joins".
 unfoldable pub stored : Model → (t v k : ℕ) → State → State
 stored Sc t v k x = with-variable v k x
-stored Tso t v k x = with-buffer t (buffer t x ++ (record { variable = v; value = k } ∷ [])) x
-stored Pso t v k x = with-buffer t (by-variable (record { variable = v; value = k }) (buffer t x)) x
+stored Tso t v k x =
+    with-buffer t (record { pending = pending t x ++ (record { group = 0; variable = v; value = k } ∷ []); marked = false }) x
+stored Pso t v k x =
+    with-buffer t
+    (record { pending = in-its-place (record { group = joined-group (buffer t x); variable = v; value = k }) (pending t x); marked = false })
+    x
+
+-- WFENCE "does nothing under SC and TSO. Under PSO it starts a new group": it sets the mark, and the next store that joins is the group's first
+unfoldable pub grouped : Model → (t : ℕ) → State → State
+grouped Sc t x = x
+grouped Tso t x = x
+grouped Pso t x = with-buffer t (marked-buffer (buffer t x)) x
 
 -- what instruction i of thread t does to registers, memory and its buffer
 unfoldable pub changed : Model → (t : ℕ) → Instr → State → State
@@ -129,7 +180,7 @@ changed m t (Set r k) x = with-register t r k x
 -- ADD: "register r becomes (r + k) mod 256": rules iii and vi
 changed m t (Add r k) x = with-register t r ((register t r x + k) % values) x
 -- LOAD: "r takes variable v": rules i, ii and vi
-changed m t (Load r v) x = with-register t r (newest v (variable v x) (buffer t x)) x
+changed m t (Load r v) x = with-register t r (newest v (variable v x) (pending t x)) x
 -- STORE, STOREK: "store register r to v", "store k to v": rules iii and iv, bounded by C
 changed m t (Store a v) x = stored m t v (carried t x a) x
 -- FENCE only waits: rule vii
@@ -139,6 +190,11 @@ changed m t (Xchg r v) x = with-register t r (variable v x) (with-variable v (re
 -- JEQ and JMP only move
 changed m t (Jeq r p k) x = x
 changed m t (Jmp p) x = x
+-- CMPX: "In one step, memory's v becomes k if it equals r, and r takes the old value either way."
+changed m t (Cmpx r v k) x =
+    with-register t r (variable v x) (cond (eqb (variable v x) (register t r x)) (with-variable v k x) x)
+-- WFENCE starts a new group, under PSO alone
+changed m t Wfence x = grouped m t x
 
 -- the place to which thread t then goes on
 unfoldable pub place-after : ℕ → Control → State → ℕ
@@ -151,7 +207,7 @@ executed m t i x = with-place t (place-after t (control-of i) x) (changed m t i 
 
 -- a flush of thread t's store to v (TSO: rule v)
 unfoldable pub flushed : (t v : ℕ) → State → State
-flushed t v x = with-buffer t (without-oldest-to v (buffer t x)) (with-variable v (oldest-to v (buffer t x)) x)
+flushed t v x = with-buffer t (flushed-buffer v (buffer t x)) (with-variable v (oldest-to v (pending t x)) x)
 
 -- The steps of a job's machine, by number.
 
@@ -177,13 +233,13 @@ has-variable j v = ltb v (length (j .initial))
 unfoldable pub may-execute-of : Job → (t : ℕ) → State → May
 may-execute-of j t x =
     needs (has-thread j t) NoSuchStep
-    then may-execute (j .model) (j .capacity) (instruction-at j t (place t x)) (buffer t x)
+    then may-execute (j .model) (j .capacity) (instruction-at j t (place t x)) (pending t x)
 
 -- a flush step: "no such step" of threads from T up and to variables from V up; then what the buffer says
 unfoldable pub may-flush-of : Job → (t v : ℕ) → State → May
 may-flush-of j t v x =
     needs (has-thread j t && has-variable j v) NoSuchStep
-    then may-flush (j .model) v (buffer t x)
+    then may-flush (j .model) v (pending t x)
 
 -- may step s be taken, and why not? "No such step" of numbers above 35.
 unfoldable pub may : Job → ℕ → State → May

@@ -25,8 +25,13 @@ pub const FEWEST_CLAUSES: u8 = 1;
 
 pub const MOST_CLAUSES: u8 = 16;
 
-// "version | 1 | 1", "version not 1"
-pub const FILE_VERSION: u8 = 1;
+// "version | 1 | 1"; request 7, "Job version 2 adds two operations", "refusal 2 now means neither version".
+pub const FIRST_VERSION: u8 = 1;
+
+// The version that brought CMPX and WFENCE.
+pub const SECOND_VERSION: u8 = 2;
+
+pub const LAST_VERSION: u8 = SECOND_VERSION;
 
 // "Length first", then the version: "fewer than 3 bytes" are none of a job.
 pub const LENGTH_SIZE: usize = 2;
@@ -54,6 +59,11 @@ pub const LONGEST_FILE: usize = HEAD_SIZE
 
 pub const ALL_REGISTERS: usize = THREADS * REGISTERS_EACH as usize;
 
+// Request 7: "a pending store's variable byte gains 16 times its group number", "The count byte gains 128 while a WFENCE stands after the newest store".
+pub const GROUP_UNIT: u8 = 16;
+
+pub const MARK_UNIT: u8 = 128;
+
 // "Slot layout: bytes 0-3 places; 4-19 registers, thread by thread; 20-27 memory; then 17 bytes a thread: count, and eight pairs"
 pub const PAIRS_SIZE: usize = 2 * MOST_PENDING as usize;
 
@@ -77,7 +87,7 @@ pub enum Source {
     Constant(u8),
 }
 
-// An instruction, decoded: 01, "The machine". Operands stand in the order of the job file; a store has what it carries and its variable.
+// An instruction, decoded: 01, "The machine", and request 7. Operands stand in the order of the job file; a store has what it carries and its variable.
 pub enum Instr {
     Set(u8, u8),
     Add(u8, u8),
@@ -87,6 +97,8 @@ pub enum Instr {
     Xchg(u8, u8),
     Jeq(u8, u8, u8),
     Jmp(u8),
+    Cmpx(u8, u8, u8),
+    Wfence,
 }
 
 // Where an instruction goes on: the next place; to p; to p if register r is k (in the order r, k, p), else the next place.
@@ -127,7 +139,7 @@ pub enum Role {
     Other,
 }
 
-// What a walk of the fence check may pass between its ends: any instruction; any but FENCE and XCHG.
+// What a walk of the fence check may pass between its ends: any instruction; any but FENCE, XCHG and CMPX.
 pub enum Passing {
     Anything,
     NoFence,

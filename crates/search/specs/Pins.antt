@@ -86,7 +86,7 @@ refused-first bytes number offset is m m′ ws none h =
 -- of each number one, and a blank goal, by their rows in 01's list or beyond it
 pub seven-is-last :
     RefusedWithNoSlot [] 1 0
-    × RefusedWithNoSlot (0x00 ∷ 0x01 ∷ 0x02 ∷ []) 2 2
+    × RefusedWithNoSlot (set p1 2 0x00) 2 2
     × RefusedWithNoSlot (set p1 5 0x05) 3 5
     × RefusedWithNoSlot (set p1 10 0x0A) 4 10
     × RefusedWithNoSlot (set p1 27 0x02) 5 27
@@ -95,7 +95,7 @@ pub seven-is-last :
 unfolding table pins
 seven-is-last = (
   refused-first [] 1 0 (row-refuses table worked 17 640 [] 1 0 refl),
-  refused-first (0x00 ∷ 0x01 ∷ 0x02 ∷ []) 2 2 (row-refuses table worked 18 640 (0x00 ∷ 0x01 ∷ 0x02 ∷ []) 2 2 refl),
+  refused-first (set p1 2 0x00) 2 2 (row-refuses pins pinned 14 640 (set p1 2 0x00) 2 2 refl),
   refused-first (set p1 5 0x05) 3 5 (row-refuses pins pinned 10 640 (set p1 5 0x05) 3 5 refl),
   refused-first (set p1 10 0x0A) 4 10 (row-refuses table worked 20 640 (set p1 10 0x0A) 4 10 refl),
   refused-first (set p1 27 0x02) 5 27 (row-refuses pins pinned 11 640 (set p1 27 0x02) 5 27 refl),

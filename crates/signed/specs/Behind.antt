@@ -1,10 +1,11 @@
 -- How far the TSO thread may have run ahead of the SC thread, which stands where the oldest pending store was made.
-use mathlib.Core.Path.{_≡_, sym, ap, subst}
+use mathlib.Core.Path.{_≡_, refl, sym, ap, subst}
 use mathlib.Core.List.{List, [], _∷_, _++_, append-nil}
 use mathlib.Core.Option.{some}
 use Prim.Native.Nat.{ℕ}
 use native.Mathlib.Omega.{arith}
 use lib.ListN.{getElem?}
+use Rattle.reach.specs.Lists.{All}
 use Rattle.rules.specs.State.{Pending}
 use Rattle.rules.specs.Kinds.{control-of, role-of}
 use Rattle.rules.specs.Fences.{role-at, Move, Passes, Leads}
@@ -19,7 +20,7 @@ use Rattle.signed.specs.Roles.{Quiet}
 
 -- the store that the thread makes at a STORE
 abbrev pub made : OwnPart → Source → ℕ → Pending
-made o a v = record { variable = v; value = carries o a }
+made o a v = record { group = 0; variable = v; value = carries o a }
 
 -- from o to q by quiet instructions and stores, of which the stores b were made
 pub data Ahead (code : List Instr) : OwnPart → OwnPart → List Pending → Type 0 where
@@ -68,7 +69,13 @@ module _ (code : List Instr) where
       }
   behind-store o q (p ∷ b) a v e w = waits-then w (storing a v e level)
 
-  -- Walks: the places between are those of quiet instructions and stores, and none is a FENCE or XCHG.
+  -- the stores that TSO makes are of one group
+  pub ahead-level : {o q : OwnPart} {b : List Pending} → Ahead code o q b → All (λ p. p .group ≡ 0) b
+  ahead-level level = tt
+  ahead-level (quietly i m e h a) = ahead-level a
+  ahead-level (storing s v e a) = (refl, ahead-level a)
+
+  -- Walks: the places between are those of quiet instructions and stores, and none is a FENCE, an XCHG or a CMPX.
 
   move-on : (i : Instr) (m : List ℕ) (o : OwnPart) → getElem? code (o .place) ≡ some i → Move code (o .place) (after i m o .place)
   unfolding after at-place

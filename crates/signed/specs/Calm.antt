@@ -1,5 +1,5 @@
 -- Under SC nothing is ever pending, and what one instruction of a thread does is `executed-does`.
-use mathlib.Core.Path.{_≡_, refl, _∙_, subst}
+use mathlib.Core.Path.{_≡_, refl, ap, _∙_, subst}
 use mathlib.Core.Logic.{_⊎_, inl, inr}
 use mathlib.Core.List.{List, []}
 use mathlib.Core.Option.{some}
@@ -8,7 +8,7 @@ use native.Mathlib.Omega.{arith}
 use lib.ListN.{length, replicate, getElem?}
 use Rattle.reach.specs.ListLaws.{getD-padded}
 use Rattle.rules.specs.Limits.{most-threads}
-use Rattle.rules.specs.State.{Pending, State, place, buffer}
+use Rattle.rules.specs.State.{Pending, Buffer, empty-buffer, State, place, buffer, pending}
 use Rattle.rules.specs.Job.{Job, start}
 use Rattle.rules.specs.Kinds.{wait-of}
 use Rattle.rules.specs.Step.{has-room, free, is-empty, may-flush, executed, next}
@@ -26,11 +26,14 @@ use Rattle.signed.specs.Steps.{code, Ran, Flushed, instr-in, next-runs, 
 -- a state in which nothing is pending
 pub record Calm (x : State) : Type 0 where
   pub sized : Sized x
-  pub empty : x .buffers ≡ replicate most-threads []
+  pub empty : x .buffers ≡ replicate most-threads empty-buffer
 
-pub calm-buffer : {x : State} → Calm x → (t : ℕ) → buffer t x ≡ []
+pub calm-buffer : {x : State} → Calm x → (t : ℕ) → buffer t x ≡ empty-buffer
 unfolding buffer
-calm-buffer k t = rw (k .empty) (getD-padded [] most-threads t [] (omega arith))
+calm-buffer k t = rw (k .empty) (getD-padded [] most-threads t empty-buffer (omega arith))
+
+pub calm-pending : {x : State} → Calm x → (t : ℕ) → pending t x ≡ []
+calm-pending k t = ap (λ (b : Buffer). b .pending) (calm-buffer k t)
 
 pub calm-changed : {t : ℕ} {o : OwnPart} {m : List ℕ} {x y : State} → Changed t o m x y → Calm x → Calm y
 calm-changed c k = record { sized = c .sized; empty = c .buffers ∙ k .empty }
@@ -50,11 +53,11 @@ module _ (j : Job) (ok : JobIn j) where
   -- a thread's step under SC
   module _ (t : ℕ) (x : State) (i : Instr) (low : t < most-threads) (k : Calm x) (e : getElem? (code j t) (place t x) ≡ some i) where
     pub sc-next : next (under Sc 0 j) t x ≡ some (executed Sc t i x)
-    sc-next = next-runs (under Sc 0 j) t x i low e (empty-free (wait-of i) (buffer t x) (calm-buffer k t))
+    sc-next = next-runs (under Sc 0 j) t x i low e (empty-free (wait-of i) (pending t x) (calm-pending k t))
 
     pub sc-does : Changed t (after i (x .memory) (own t x)) (wrote i (own t x) (x .memory)) x (executed Sc t i x)
     sc-does =
-        executed-does t low x (k .sized) (length (j .initial)) (length (code j t)) i (instr-in j ok t (place t x) i e) (λ h. calm-buffer k t)
+        executed-does t low x (k .sized) (length (j .initial)) (length (code j t)) i (instr-in j ok t (place t x) i e) (λ h. calm-pending k t)
 
   -- no flush, so every step is a thread's
   pub sc-ran : (s : ℕ) (x y : State) → next (under Sc 0 j) s x ≡ some y → Ran (under Sc 0 j) s x y

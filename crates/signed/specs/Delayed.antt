@@ -1,6 +1,7 @@
 -- The SC state behind a TSO state: every thread with a store pending stands where the oldest was made.
 use mathlib.Core.Path.{_≡_, refl, sym, _∙_, ap, ap₂, subst}
 use mathlib.Core.Logic.{_≢_}
+use mathlib.Core.Bool.{false}
 use mathlib.Core.List.{List, [], _∷_}
 use mathlib.Core.Option.{some}
 use Prim.Native.Nat.{ℕ, _*_, _+_, _/_, _%_, _<_}
@@ -9,9 +10,10 @@ use native.Mathlib.Decide.{ℕ-discrete}
 use lib.ListN.{length, replicate, getElem?}
 use lib.Seq.{ext-getD}
 use Rattle.reach.specs.Lists.{All}
+use Rattle.reach.specs.ListLaws.{all-getD, all-by-getD}
 use Rattle.reach.specs.System.{run}
 use Rattle.rules.specs.Limits.{most-threads, registers-each}
-use Rattle.rules.specs.State.{Pending, State, place, register, buffer}
+use Rattle.rules.specs.State.{Pending, Buffer, empty-buffer, State, place, register, buffer, pending}
 use Rattle.rules.specs.Job.{Job, start}
 use Rattle.rules.specs.Step.{executed}
 use Rattle.rules.specs.Machine.{machine}
@@ -22,14 +24,16 @@ use Rattle.signed.specs.Own.{OwnPart, own, own-register, after, Sized, r
 use Rattle.signed.specs.Roles.{quiet-after}
 use Rattle.signed.specs.Behind.{made, Ahead, level, quietly, storing, Waits, Behind}
 use Rattle.signed.specs.Steps.{code}
-use Rattle.signed.specs.Calm.{Calm, calm-buffer, calm-changed, start-calm, sc-next, sc-does}
+use Rattle.signed.specs.Calm.{Calm, calm-buffer, calm-pending, calm-changed, start-calm, sc-next, sc-does}
 
 -- x is y with each thread put back to where its oldest pending store was made
 pub record Delayed (j : Job) (x y : State) : Type 0 where
   pub calm : Calm x
   pub sized : Sized y
   pub memory : x .memory ≡ y .memory
-  pub threads : (t : ℕ) → Behind (code j t) (own t x) (own t y) (buffer t y)
+  pub threads : (t : ℕ) → Behind (code j t) (own t x) (own t y) (pending t y)
+  -- under TSO no WFENCE leaves a mark
+  pub unmarked : (t : ℕ) → buffer t y .marked ≡ false
 
 pub start-delayed : (j : Job) → Delayed j (start j) (start j)
 start-delayed j =
@@ -37,7 +41,8 @@ start-delayed j =
       calm = start-calm j;
       sized = start-calm j .sized;
       memory = refl;
-      threads = λ t. subst (Behind (code j t) (own t (start j)) (own t (start j))) (sym (calm-buffer (start-calm j) t)) refl;
+      threads = λ t. subst (Behind (code j t) (own t (start j)) (own t (start j))) (sym (calm-pending (start-calm j) t)) refl;
+      unmarked = λ t. ap (λ (b : Buffer). b .marked) (calm-buffer (start-calm j) t);
     }
 
 -- only thread t's part has changed
@@ -45,13 +50,17 @@ pub delayed-but : (j : Job) (t : ℕ) {x y x′ y′ : State} → Delayed j x y 
     → ((u : ℕ) → u ≢ t → own u x′ ≡ own u x)
     → ((u : ℕ) → u ≢ t → own u y′ ≡ own u y)
     → ((u : ℕ) → u ≢ t → buffer u y′ ≡ buffer u y)
-    → Behind (code j t) (own t x′) (own t y′) (buffer t y′) → Delayed j x′ y′
-delayed-but j t {x} {y} {x′} {y′} d calm sized memory mine yours buffers here =
-    record { calm = calm; sized = sized; memory = memory; threads = λ u. which u (ℕ-discrete u t) }
+    → Behind (code j t) (own t x′) (own t y′) (pending t y′) → buffer t y′ .marked ≡ false → Delayed j x′ y′
+delayed-but j t {x} {y} {x′} {y′} d calm sized memory mine yours buffers here mark =
+    record { calm = calm; sized = sized; memory = memory; threads = λ u. which u (ℕ-discrete u t); unmarked = λ u. plain u (ℕ-discrete u t) }
   where
-    which : (u : ℕ) → Dec (u ≡ t) → Behind (code j u) (own u x′) (own u y′) (buffer u y′)
+    plain : (u : ℕ) → Dec (u ≡ t) → buffer u y′ .marked ≡ false
+    plain u (yes e) = rw e mark
+    plain u (no n) = ap (λ (b : Buffer). b .marked) (buffers u n) ∙ d .unmarked u
+
+    which : (u : ℕ) → Dec (u ≡ t) → Behind (code j u) (own u x′) (own u y′) (pending u y′)
     which u (yes e) = rw e here
-    which u (no n) = rw (mine u n, yours u n, buffers u n) (d .threads u)
+    which u (no n) = rw (mine u n, yours u n, ap (λ (b : Buffer). b .pending) (buffers u n)) (d .threads u)
 
 -- with all buffers empty the two states are one
 all-alike : {A : Type 0} (a : A) (l : List A) → All (λ b. b ≡ a) l → l ≡ replicate (length l) a
@@ -59,15 +68,26 @@ all-alike a [] h = refl
 all-alike a (b ∷ l) h = ap₂ _∷_ (h .0) (all-alike a l (h .1))
 
 pub delayed-empty : (j : Job) (x y : State) → Delayed j x y → AllEmpty y → x ≡ y
-unfolding own place register
+unfolding own place register buffer
 delayed-empty j x y d h =
     λ i. record { places = places i; registers = registers i; memory = d .memory i; buffers = buffers i }
   where
+    each-empty : (t : ℕ) → buffer t y ≡ empty-buffer
+    each-empty t =
+        let none : pending t y ≡ [] = all-getD (λ (b : Buffer). b .pending ≡ []) (y .buffers) t empty-buffer h refl in
+        λ i. record { pending = none i; marked = d .unmarked t i }
+
     calm-y : Calm y
-    calm-y = record { sized = d .sized; empty = all-alike [] (y .buffers) h ∙ ap (λ n. replicate n []) (d .sized .buffers) }
+    calm-y =
+        record {
+          sized = d .sized;
+          empty =
+              all-alike empty-buffer (y .buffers) (all-by-getD (λ (b : Buffer). b ≡ empty-buffer) (y .buffers) empty-buffer each-empty)
+              ∙ ap (λ n. replicate n empty-buffer) (d .sized .buffers);
+        }
 
     same : (t : ℕ) → own t x ≡ own t y
-    same t = subst (Behind (code j t) (own t x) (own t y)) (calm-buffer calm-y t) (d .threads t)
+    same t = subst (Behind (code j t) (own t x) (own t y)) (calm-pending calm-y t) (d .threads t)
 
     buffers : x .buffers ≡ y .buffers
     buffers = d .calm .empty ∙ sym (calm-y .empty)

@@ -1,19 +1,21 @@
 -- Dead code never runs: under every model each thread stands at a place to which moves lead from its place 0.
 use mathlib.Core.Path.{_≡_, refl, subst}
 use mathlib.Core.Logic.{_⊎_, inl, inr}
+use mathlib.Core.Bool.{Bool, true, false, cond}
 use mathlib.Core.List.{List, [], _∷_}
 use mathlib.Core.Option.{some}
 use Prim.Native.Nat.{ℕ}
 use native.Mathlib.Omega.{arith}
+use lib.Dec.{eqb}
 use lib.ListN.{getElem?}
 use Rattle.reach.specs.ListLaws.{at-set, getD-padded}
 use Rattle.reach.specs.System.{run}
 use Rattle.reach.specs.RunLaws.{andThen-some}
 use Rattle.rules.specs.Limits.{most-threads}
-use Rattle.rules.specs.State.{State, place, with-place, with-register, with-variable, with-buffer}
+use Rattle.rules.specs.State.{State, place, register, variable, with-place, with-register, with-variable, with-buffer}
 use Rattle.rules.specs.Job.{Job, start}
 use Rattle.rules.specs.Kinds.{control-of}
-use Rattle.rules.specs.Step.{stored, changed, place-after, executed, flushed, next}
+use Rattle.rules.specs.Step.{stored, grouped, changed, place-after, executed, flushed, next}
 use Rattle.rules.specs.Machine.{machine}
 use Rattle.rules.specs.Fences.{Live}
 use Rattle.rules.specs.FenceCheck.{move-by, live-on}
@@ -21,7 +23,7 @@ use Rattle.rules.specs.Onward.{place-after-onward}
 use Rattle.rules.specs.declared.Model.{Model}
 use Rattle.rules.specs.declared.Model.the-variants.{Sc, Tso, Pso}
 use Rattle.rules.specs.declared.Instr.{Instr}
-use Rattle.rules.specs.declared.Instr.the-variants.{Set, Add, Load, Store, Fence, Xchg, Jeq, Jmp}
+use Rattle.rules.specs.declared.Instr.the-variants.{Set, Add, Load, Store, Fence, Xchg, Jeq, Jmp, Cmpx, Wfence}
 use Rattle.signed.specs.Steps.{code, Ran, Flushed, next-either}
 
 -- every thread stands at a live place
@@ -32,9 +34,14 @@ pub start-live : (j : Job) → AllLive j (start j)
 unfolding start place
 start-live j t = inl (getD-padded [] most-threads t 0 (omega arith))
 
+compared-kept : (b : Bool) (v k : ℕ) (x : State) → cond b (with-variable v k x) x .places ≡ x .places
+unfolding with-variable
+compared-kept true v k x = refl
+compared-kept false v k x = refl
+
 -- before it goes on an instruction leaves all places as they are
 places-kept : (m : Model) (t : ℕ) (i : Instr) (x : State) → changed m t i x .places ≡ x .places
-unfolding changed stored with-register with-variable with-buffer
+unfolding changed stored grouped with-register with-variable with-buffer
 places-kept m t (Set r k) x = refl
 places-kept m t (Add r k) x = refl
 places-kept m t (Load r v) x = refl
@@ -45,6 +52,10 @@ places-kept m t Fence x = refl
 places-kept m t (Xchg r v) x = refl
 places-kept m t (Jeq r p k) x = refl
 places-kept m t (Jmp p) x = refl
+places-kept m t (Cmpx r v k) x = compared-kept (eqb (variable v x) (register t r x)) v k x
+places-kept Sc t Wfence x = refl
+places-kept Tso t Wfence x = refl
+places-kept Pso t Wfence x = refl
 
 module _ (j : Job) where
   executed-live : (m : Model) (t : ℕ) (i : Instr) (x : State) → getElem? (code j t) (place t x) ≡ some i → AllLive j x

@@ -1,7 +1,7 @@
 -- A thread's own part of a state, what an instruction does to it and to memory, and that under SC it does just that.
 use mathlib.Core.Path.{_≡_, refl, _∙_, ap}
 use mathlib.Core.Logic.{_≢_, inl}
-use mathlib.Core.Bool.{cond}
+use mathlib.Core.Bool.{Bool, true, false, cond}
 use mathlib.Core.List.{List, []}
 use Prim.Native.Nat.{ℕ, suc, _+_, _-_, _*_, _%_, _≤_, _<_}
 use native.Mathlib.Omega.{arith}
@@ -11,9 +11,9 @@ use lib.ListN.{length, getD, set, take, drop, length-set}
 use lib.Seq.{getD-set-same, getD-set-other, drop-set-add, drop-set-lt, take-set-lt, take-set-le, getD-take, getD-drop}
 use Rattle.reach.specs.Lists.{_∈_}
 use Rattle.rules.specs.Limits.{registers-each, all-registers, most-threads, values}
-use Rattle.rules.specs.State.{State, place, register, variable, buffer, with-place, with-register, with-variable}
+use Rattle.rules.specs.State.{State, place, register, variable, pending, with-place, with-register, with-variable}
 use Rattle.rules.specs.Kinds.{control-of, role-of}
-use Rattle.rules.specs.Step.{newest, carried, stored, changed, place-after, executed}
+use Rattle.rules.specs.Step.{newest, carried, stored, grouped, changed, place-after, executed}
 use Rattle.rules.specs.Fences.{onward}
 use Rattle.rules.specs.Sound.{SourceIn, InstrIn}
 use Rattle.rules.specs.Onward.{branch-onward, ControlIn, control-in}
@@ -24,7 +24,7 @@ use Rattle.rules.specs.declared.Control.{Control}
 use Rattle.rules.specs.declared.Control.the-variants.{On, To, ToIf}
 use Rattle.rules.specs.declared.Role.the-variants.{Loads}
 use Rattle.rules.specs.declared.Instr.{Instr}
-use Rattle.rules.specs.declared.Instr.the-variants.{Set, Add, Load, Store, Fence, Xchg, Jeq, Jmp}
+use Rattle.rules.specs.declared.Instr.the-variants.{Set, Add, Load, Store, Fence, Xchg, Jeq, Jmp, Cmpx, Wfence}
 
 -- what belongs to one thread alone: its place and its registers
 pub record OwnPart : Type 0 where
@@ -73,6 +73,8 @@ altered Fence m o = o
 altered (Xchg r v) m o = with-own-register r (getD m v 0) o
 altered (Jeq r p k) m o = o
 altered (Jmp p) m o = o
+altered (Cmpx r v k) m o = with-own-register r (getD m v 0) o
+altered Wfence m o = o
 
 unfoldable pub after : Instr → List ℕ → OwnPart → OwnPart
 after i m o = at-place (goes-on (control-of i) o) (altered i m o)
@@ -87,6 +89,8 @@ wrote Fence o m = m
 wrote (Xchg r v) o m = set m v (own-register r o)
 wrote (Jeq r p k) o m = m
 wrote (Jmp p) o m = m
+wrote (Cmpx r v k) o m = cond (eqb (getD m v 0) (own-register r o)) (set m v k) m
+wrote Wfence o m = m
 
 -- the lengths of the lists, which no step changes
 pub record Sized (x : State) : Type 0 where
@@ -191,10 +195,15 @@ module _ (t : ℕ) (low : t < most-threads) (x : State) (z : Sized x) where
   unfolding onwards own
   changed-onwards = changed-place t low x (unchanged t low x z) (suc (place t x))
 
+  -- CMPX writes or not
+  compared : (b : Bool) (v k : ℕ) → Changed t (own t x) (cond b (set (x .memory) v k) (x .memory)) x (cond b (with-variable v k x) x)
+  compared true v k = changed-variable t low x (unchanged t low x z) v k
+  compared false v k = unchanged t low x z
+
   -- under SC this becomes of the own part's registers and of memory, and no more; a load must not have a store of its own pending
-  changed-does : (vars n : ℕ) (i : Instr) → InstrIn vars n i → (role-of i ≡ Loads → buffer t x ≡ [])
+  changed-does : (vars n : ℕ) (i : Instr) → InstrIn vars n i → (role-of i ≡ Loads → pending t x ≡ [])
       → Changed t (altered i (x .memory) (own t x)) (wrote i (own t x) (x .memory)) x (changed Sc t i x)
-  unfolding changed altered wrote stored newest variable role-of
+  unfolding changed altered wrote stored grouped newest variable role-of
   changed-does vars n (Set r k) h f = changed-register t low x (unchanged t low x z) r k (h .0)
   changed-does vars n (Add r k) h f =
       rw (← register-own t low x z r (h .0)) (changed-register t low x (unchanged t low x z) r ((register t r x + k) % values) (h .0))
@@ -207,6 +216,10 @@ module _ (t : ℕ) (low : t < most-threads) (x : State) (z : Sized x) where
       (changed-register t low x (changed-variable t low x (unchanged t low x z) v (register t r x)) r (variable v x) (h .0))
   changed-does vars n (Jeq r p k) h f = unchanged t low x z
   changed-does vars n (Jmp p) h f = unchanged t low x z
+  changed-does vars n (Cmpx r v k) h f =
+      rw (← register-own t low x z r (h .0))
+      (changed-register t low x (compared (eqb (variable v x) (register t r x)) v k) r (variable v x) (h .0))
+  changed-does vars n Wfence h f = unchanged t low x z
 
   place-own : (n : ℕ) (c : Control) → ControlIn n c → place-after t c x ≡ goes-on c (own t x)
   unfolding place-after goes-on own
@@ -214,7 +227,7 @@ module _ (t : ℕ) (low : t < most-threads) (x : State) (z : Sized x) where
   place-own n (To p) h = refl
   place-own n (ToIf r k p) h = rw (register-own t low x z r (h .0))
 
-  pub executed-does : (vars n : ℕ) (i : Instr) → InstrIn vars n i → (role-of i ≡ Loads → buffer t x ≡ [])
+  pub executed-does : (vars n : ℕ) (i : Instr) → InstrIn vars n i → (role-of i ≡ Loads → pending t x ≡ [])
       → Changed t (after i (x .memory) (own t x)) (wrote i (own t x) (x .memory)) x (executed Sc t i x)
   unfolding executed after
   executed-does vars n i h f =

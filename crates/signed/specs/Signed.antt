@@ -9,8 +9,7 @@ use Rattle.reach.specs.System.{System}
 use Rattle.reach.specs.Meaning.{Reached, LeastGoal, NoGoal, Outcome, IsReachable, IsUnreachable}
 use Rattle.rules.specs.State.{State}
 use Rattle.rules.specs.Job.{Job, start}
-use Rattle.rules.specs.Step.{is-empty}
-use Rattle.rules.specs.Goal.{every, clause-holds, goal}
+use Rattle.rules.specs.Goal.{every, nothing-pending, clause-holds, goal}
 use Rattle.rules.specs.Tests.{both}
 use Rattle.rules.specs.Machine.{machine}
 use Rattle.rules.specs.Fences.{fenced, ChecksTo}
@@ -41,7 +40,7 @@ signed j ok passes c room x empty = (
 goal-empty : (j : Job) → j .all-empty ≡ true → (x : State) → T (goal j x) → AllEmpty x
 unfolding goal
 goal-empty j flag x h =
-    let flag-holds = both (not (j .all-empty) || every is-empty (x .buffers)) (every (clause-holds x) (j .clauses)) h .0 in
+    let flag-holds = both (not (j .all-empty) || every nothing-pending (x .buffers)) (every (clause-holds x) (j .clauses)) h .0 in
     all-empty-test x .0 (rw flag at flag-holds)
 
 goal-reached : (S : System) (d : ℕ) → LeastGoal S d → ¬ (NoGoal S)

@@ -12,7 +12,7 @@ use Rattle.reach.specs.ListLaws.{at-getD, at-below}
 use Rattle.reach.specs.System.{System, run}
 use Rattle.reach.specs.RunLaws.{andThen-some, run-append}
 use Rattle.rules.specs.Limits.{most-threads, most-variables, step-bound}
-use Rattle.rules.specs.State.{State, place, buffer}
+use Rattle.rules.specs.State.{State, place, pending}
 use Rattle.rules.specs.Job.{Job}
 use Rattle.rules.specs.Kinds.{wait-of}
 use Rattle.rules.specs.Step.{free, may-execute, may-flush, executed, flushed, instruction-at, flush-thread, flush-variable, may, after-execute, after, step, next}
@@ -42,13 +42,13 @@ pub record Ran (j : Job) (t : ℕ) (x y : State) : Type 0 where
   pub low : t < most-threads
   pub instr : Instr
   pub stands : getElem? (code j t) (place t x) ≡ some instr
-  pub may : free (j .model) (j .capacity) (wait-of instr) (buffer t x) ≡ Yes
+  pub may : free (j .model) (j .capacity) (wait-of instr) (pending t x) ≡ Yes
   pub is : executed (j .model) t instr x ≡ y
 
 -- thread t's store to v may be flushed, and y is the state after it
 pub record Flushed (j : Job) (t v : ℕ) (x y : State) : Type 0 where
   pub low : t < most-threads
-  pub may : may-flush (j .model) v (buffer t x) ≡ Yes
+  pub may : may-flush (j .model) v (pending t x) ≡ Yes
   pub is : flushed t v x ≡ y
 
 module _ (j : Job) where
@@ -56,14 +56,14 @@ module _ (j : Job) where
   instr-in ok t p i e = stands j ok t p i (instruction-of-thread j t p ∙ e) .operands
 
   pub next-runs : (t : ℕ) (x : State) (i : Instr) → t < most-threads → getElem? (code j t) (place t x) ≡ some i
-      → free (j .model) (j .capacity) (wait-of i) (buffer t x) ≡ Yes → next j t x ≡ some (executed (j .model) t i x)
+      → free (j .model) (j .capacity) (wait-of i) (pending t x) ≡ Yes → next j t x ≡ some (executed (j .model) t i x)
   unfolding step after may-execute after-execute
   next-runs t x i low e f =
       let there : t < length (j .threads) = at-below (j .threads) t (code j t) (code-there j t (place t x) i e) in
       rw (may-executes j x t low, execute-of-thread j x t there, lt-ltb _ _ low, instruction-of-thread j t (place t x), e, f)
 
   pub next-flushes : (t v : ℕ) (x : State) → t < most-threads → v < most-variables → t < length (j .threads) → v < length (j .initial)
-      → may-flush (j .model) v (buffer t x) ≡ Yes → next j (most-threads + most-variables * t + v) x ≡ some (flushed t v x)
+      → may-flush (j .model) v (pending t x) ≡ Yes → next j (most-threads + most-variables * t + v) x ≡ some (flushed t v x)
   unfolding step after flush-thread flush-variable
   next-flushes t v x low small there used f =
       let s = most-threads + most-variables * t + v in
@@ -80,7 +80,7 @@ module _ (j : Job) where
       which (decLt s most-threads) (decLt s step-bound) (g .0) (g .1)
     where
       runs : s < most-threads → (o : Option Instr) → instruction-at j s (place s x) ≡ o
-          → may-execute (j .model) (j .capacity) o (buffer s x) ≡ Yes → after-execute (j .model) s o x ≡ y → Ran j s x y
+          → may-execute (j .model) (j .capacity) o (pending s x) ≡ Yes → after-execute (j .model) s o x ≡ y → Ran j s x y
       runs low none at f d = absurd (no-is-not-yes f)
       runs low (some i) at f d = record { low = low; instr = i; stands = sym (instruction-of-thread j s (place s x)) ∙ at; may = f; is = d }
 

@@ -7,10 +7,10 @@ use native.Mathlib.Omega.{arith}
 use lib.Dec.{T}
 use lib.ListN.{length}
 use Rattle.reach.specs.Lists.{All}
-use Rattle.rules.specs.State.{Pending, State}
+use Rattle.rules.specs.State.{Pending, Buffer, State}
 use Rattle.rules.specs.Job.{Job}
 use Rattle.rules.specs.Step.{is-empty}
-use Rattle.rules.specs.Goal.{every}
+use Rattle.rules.specs.Goal.{every, nothing-pending}
 use Rattle.rules.specs.Tests.{both, of-both}
 use Rattle.rules.specs.Sound.{CapacityIn, JobIn}
 use Rattle.rules.specs.declared.Model.{Model}
@@ -37,21 +37,21 @@ under-sc j ok e =
 
 -- every buffer is empty
 abbrev pub AllEmpty : State → Type 0
-AllEmpty x = All (λ b. b ≡ []) (x .buffers)
+AllEmpty x = All (λ b. b .pending ≡ []) (x .buffers)
 
 empty-test : (b : List Pending) → T (is-empty b) ↔ (b ≡ [])
 unfolding is-empty
 empty-test [] = (λ h. refl, λ e. tt)
 empty-test (p ∷ b) = (λ h. absurd h, λ e. let n = ap length e in absurd (omega arith))
 
-every-empty : (l : List (List Pending)) → T (every is-empty l) ↔ All (λ b. b ≡ []) l
+every-empty : (l : List Buffer) → T (every nothing-pending l) ↔ All (λ b. b .pending ≡ []) l
 unfolding every
 every-empty [] = (λ h. tt, λ h. tt)
 every-empty (b ∷ l) = (
-  λ h. let p = both (is-empty b) (every is-empty l) h in (empty-test b .0 (p .0), every-empty l .0 (p .1)),
-  λ h. of-both (is-empty b) (every is-empty l) (empty-test b .1 (h .0)) (every-empty l .1 (h .1)),
+  λ h. let p = both (nothing-pending b) (every nothing-pending l) h in (empty-test (b .pending) .0 (p .0), every-empty l .0 (p .1)),
+  λ h. of-both (nothing-pending b) (every nothing-pending l) (empty-test (b .pending) .1 (h .0)) (every-empty l .1 (h .1)),
 )
 
 -- it is what the goal's flag asks
-pub all-empty-test : (x : State) → T (every is-empty (x .buffers)) ↔ AllEmpty x
+pub all-empty-test : (x : State) → T (every nothing-pending (x .buffers)) ↔ AllEmpty x
 all-empty-test x = every-empty (x .buffers)

@@ -31,7 +31,7 @@ module _ (table : List ℕ) (at : ℕ) (l : List Buf) (full : All FullBuffer l) 
   laid-buffer room = rw (buffers-bytes-suc l t h) (laid-then table at front next (buffer-size * t) number room)
 
 pub read-buffer-bytes : (table : List ℕ) (at : ℕ) (slots : List ℕ) → at + buffer-size ≤ length table
-    → slots ≡ bytes-at table (at + 1) pairs-size → ReadBuffer table at (record { len = getD table at 0; slots = slots })
+    → slots ≡ bytes-at table (at + 1) pairs-size → ReadBuffer table at (record { count = getD table at 0; slots = slots })
 unfolding buffer-bytes
 read-buffer-bytes table at slots h e =
     let pairs : slots ≡ bytes-at table (suc at) pairs-size = e ∙ rw add-one in

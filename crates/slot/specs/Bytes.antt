@@ -10,7 +10,7 @@ use Rattle.state.specs.declared.State.{State}
 
 -- "17 bytes a thread: count, and eight pairs"
 unfoldable pub buffer-bytes : Buf → List ℕ
-buffer-bytes b = b .len ∷ b .slots
+buffer-bytes b = b .count ∷ b .slots
 
 unfoldable pub buffers-bytes : List Buf → List ℕ
 buffers-bytes [] = []

@@ -11,12 +11,13 @@ use Rattle.rules.specs.Limits.{buffer-size, slot-size}
 use Rattle.buffer.specs.declared.Buf.{Buf}
 use Rattle.state.specs.declared.State.{State}
 use Rattle.buffer.specs.Held.{BufferOk}
+use Rattle.buffer.specs.PairLaws.{all-take}
 use Rattle.state.specs.Held.{StateOk}
 use Rattle.slot.specs.Bytes.{buffer-bytes, buffers-bytes, state-bytes, FullBuffer, Sized}
 
 -- a buffer without bytes, as the list of buffers reads past its end
 abbrev pub no-buffer : Buf
-no-buffer = record { len = 0; slots = [] }
+no-buffer = record { count = 0; slots = [] }
 
 pub buffers-bytes-append : (l m : List Buf) → buffers-bytes (l ++ m) ≡ buffers-bytes l ++ buffers-bytes m
 unfolding buffers-bytes
@@ -33,11 +34,6 @@ pub buffers-bytes-number : (l : List Buf) → All FullBuffer l → length (buffe
 unfolding buffers-bytes buffer-bytes
 buffers-bytes-number [] h = refl
 buffers-bytes-number (b ∷ l) h = simp length-append (omega (arith, h .0, buffers-bytes-number l (h .1)))
-
-all-take : {A : Type 0} (P : A → Type 0) (n : ℕ) (l : List A) → All P l → All P (take n l)
-all-take P zero l h = tt
-all-take P (suc n) [] h = tt
-all-take P (suc n) (x ∷ l) h = (h .0, all-take P n l (h .1))
 
 pub front-number : (l : List Buf) (t : ℕ) → All FullBuffer l → t ≤ length l → length (buffers-bytes (take t l)) ≡ buffer-size * t
 front-number l t h k = omega (arith, buffers-bytes-number (take t l) (all-take FullBuffer t l h), length-take t l)
@@ -63,10 +59,10 @@ buffers-bytes-equal [] (c ∷ m) n h k e = absurd (omega arith)
 buffers-bytes-equal (b ∷ l) [] n h k e = absurd (omega arith)
 buffers-bytes-equal (b ∷ l) (c ∷ m) n h k e =
     let parts = append-equal (buffer-bytes b) (buffer-bytes c) (buffers-bytes l) (buffers-bytes m) (omega (arith, h .0, k .0)) e in
-    let count : b .len ≡ c .len = cc in
+    let count : b .count ≡ c .count = cc in
     let pairs : b .slots ≡ c .slots = cc in
     let rest = buffers-bytes-equal l m (omega arith) (h .1) (k .1) (parts .1) in
-    λ i. record { len = count i; slots = pairs i } ∷ rest i
+    λ i. record { count = count i; slots = pairs i } ∷ rest i
 
 -- states with the same bytes are the same state
 pub state-bytes-equal : (x y : State) → Sized x → Sized y → state-bytes x ≡ state-bytes y → x ≡ y

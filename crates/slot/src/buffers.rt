@@ -13,7 +13,7 @@ fn put_buffer(table: &mut [u8], at: usize, b: Buf)
     requires { ⌜ at + buffer-size ≤ length (now table) ⌝ }
     ensures { λ r. ⌜ Laid (now (table .entry)) (now (table .exit)) at (buffer-bytes b) ⌝ }
 {
-    table[at] = b.len;
+    table[at] = b.count;
     span::put_bytes(table, at + 1, &b.slots);
 }
 
@@ -38,7 +38,7 @@ fn read_buffer(table: &[u8], at: usize) -> Buf
     let mut slots = [0u8; rules::PAIRS_SIZE];
     span::read_bytes(&mut slots, table, at + 1);
     Buf {
-        len: table[at],
+        count: table[at],
         slots,
     }
 }
@@ -49,7 +49,7 @@ pub fn read_buffers(table: &[u8], at: usize) -> [Buf; rules::THREADS]
     ensures { λ r. ⌜ ReadBuffers (now (table .entry)) at most-threads r ⌝ }
 {
     let empty = Buf {
-        len: 0,
+        count: 0,
         slots: [0; rules::PAIRS_SIZE],
     };
     let mut bufs = [empty; rules::THREADS];

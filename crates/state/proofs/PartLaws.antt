@@ -8,9 +8,9 @@ use Rattle.reach.specs.Lists.{All}
 use Rattle.reach.specs.ListLaws.{all-at, all-set, at-in, at-default}
 use Rattle.rules.specs.Limits.{registers-each, most-threads}
 use Rattle.rules.specs.State as rules
-use Rattle.buffer.specs.Held.{pairs, held-buffer, BufferOk}
+use Rattle.buffer.specs.Held.{pairs, held-pending, held-buffer, BufferOk}
 use Rattle.buffer.specs.declared.Buf.{Buf}
-use Rattle.buffer.specs.Posts.{Holds as HoldsStores}
+use Rattle.buffer.specs.Posts.{Holds as HoldsBuffer}
 use Rattle.state.specs.Held.{held, StateOk}
 use Rattle.state.specs.Parts.{Holds}
 use Rattle.state.specs.declared.State.{State}
@@ -26,11 +26,11 @@ map-set {B = B} f (x ∷ l) (suc i) y = ap {B = List B} (_∷_ (f x)) (map-set f
 
 -- what a read past the end would give
 abbrev no-buffer : Buf
-no-buffer = record { len = 0; slots = [] }
+no-buffer = record { count = 0; slots = [] }
 
 module _ (s : State) (ok : StateOk s) where
-  pub buffer-read : (t : ℕ) → t < most-threads → HoldsStores (getD (s .bufs) t no-buffer) (rules.buffer t (held s))
-  unfolding held rules.buffer held-buffer pairs
+  pub buffer-read : (t : ℕ) → t < most-threads → HoldsBuffer (getD (s .bufs) t no-buffer) (rules.buffer t (held s))
+  unfolding held rules.buffer held-pending pairs
   buffer-read t h =
       record {
         ok = all-at BufferOk (s .bufs) (ok .buffers) _ (at-in (s .bufs) t _ (at-default (s .bufs) t no-buffer (omega arith)));

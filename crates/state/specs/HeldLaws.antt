@@ -1,5 +1,5 @@
 -- A state's value is as good as the state: written and held undo each other, and values that hold the same state are equal.
-use mathlib.Core.Path.{_≡_, refl, sym, ap, ap₂, _∙_}
+use mathlib.Core.Path.{_≡_, refl, ap, ap₂, _∙_}
 use mathlib.Core.List.{List, [], _∷_, map}
 use lib.ListN.{length-map}
 use Rattle.reach.specs.Lists.{All}
@@ -7,7 +7,7 @@ use Rattle.reach.specs.ListLaws.{all-imp}
 use Rattle.rules.specs.State as rules
 use Rattle.rules.specs.Job.{Job}
 use Rattle.rules.specs.Sound.{JobIn, WellFormed}
-use Rattle.rules.specs.Keeps.{Fits, buffers-fit}
+use Rattle.rules.specs.SlotLaws.{Writable, buffers-writable}
 use Rattle.buffer.specs.Held.{held-buffer, written-buffer, BufferOk}
 use Rattle.buffer.specs.HeldLaws as buffers
 use Rattle.state.specs.Held.{held, written, StateOk}
@@ -34,8 +34,8 @@ module _ (j : Job) (in-range : JobIn j) (x : rules.State) (well : WellFormed j x
   pub held-written : held (written x) ≡ x
   unfolding written held
   held-written =
-      let fit = buffers-fit j in-range x well in
-      let buffers = map-back written-buffer held-buffer (x .buffers) (all-imp Fits _ buffers.held-written (x .buffers) fit) in
+      let writable = buffers-writable j in-range x well in
+      let buffers = map-back written-buffer held-buffer (x .buffers) (all-imp Writable _ buffers.held-written (x .buffers) writable) in
       λ i. record { places = x .places; registers = x .registers; memory = x .memory; buffers = buffers i }
 
   pub written-ok : StateOk (written x)
@@ -46,5 +46,5 @@ module _ (j : Job) (in-range : JobIn j) (x : rules.State) (well : WellFormed j x
         registers-number = well .registers-number;
         memory-number = well .memory-number;
         buffers-number = length-map (x .buffers) written-buffer ∙ well .buffers-number;
-        buffers = all-map Fits BufferOk written-buffer buffers.written-ok (x .buffers) (buffers-fit j in-range x well);
+        buffers = all-map Writable BufferOk written-buffer buffers.written-ok (x .buffers) (buffers-writable j in-range x well);
       }

@@ -9,7 +9,7 @@ ghost use Prim.Native.Nat.{_+_, _*_, _<_};
 ghost use Rattle.rules.specs.Limits.{most-threads, most-variables, registers-each, all-registers};
 ghost use Rattle.rules.specs.State.{place, register, variable, buffer, with-place, with-register, with-variable, with-buffer};
 ghost use Rattle.buffer.specs.Held.{held-buffer, BufferOk};
-ghost use Rattle.buffer.specs.Posts.{Holds as HoldsStores};
+ghost use Rattle.buffer.specs.Posts.{Holds as HoldsBuffer};
 ghost use Rattle.state.specs.Held.{held, StateOk};
 ghost use Rattle.state.specs.Parts.{At, Holds};
 
@@ -57,10 +57,10 @@ pub fn variable(x: State, v: u8) -> u8
     x.mem[v as usize]
 }
 
-// The pending stores of thread t.
+// The buffer of thread t.
 pub fn buffer(x: State, t: u8) -> Buf
     requires { ⌜ At x t ⌝ }
-    ensures { λ b. ⌜ HoldsStores b (buffer t (held x)) ⌝ }
+    ensures { λ b. ⌜ HoldsBuffer b (buffer t (held x)) ⌝ }
 {
     x.bufs[t as usize]
 }

@@ -1,7 +1,8 @@
-// The tables of 01: what four bytes are as an instruction, and what they are as a clause of a goal.
+// The tables of 01 and request 7: what four bytes are as an instruction, and what they are as a clause of a goal.
 use rules::Clause;
 use rules::Instr;
 use rules::REGISTERS_EACH;
+use rules::SECOND_VERSION;
 use rules::Source;
 ghost use mathlib.Core.Path.{_≡_};
 ghost use Rattle.rules.specs.Step.{given};
@@ -31,9 +32,9 @@ fn keep(ok: bool, i: Instr) -> InstrRead
     }
 }
 
-// vars is V, n the length of the thread that the instruction stands in.
-pub fn instruction(vars: u8, n: u8, op: u8, a: u8, b: u8, c: u8) -> InstrRead
-    ensures { λ r. ⌜ instr-of r ≡ instruction-of vars n op a b c ⌝ }
+// vars is V, n the length of the thread that the instruction stands in. Version 2 has two operations more.
+pub fn instruction(version: u8, vars: u8, n: u8, op: u8, a: u8, b: u8, c: u8) -> InstrRead
+    ensures { λ r. ⌜ instr-of r ≡ instruction-of version vars n op a b c ⌝ }
 {
     match op {
         1 => keep((a < REGISTERS_EACH) & (b == 0), Instr::Set(a, c)),
@@ -54,7 +55,15 @@ pub fn instruction(vars: u8, n: u8, op: u8, a: u8, b: u8, c: u8) -> InstrRead
         ),
         8 => keep((a < REGISTERS_EACH) & (b <= n), Instr::Jeq(a, b, c)),
         9 => keep((a == 0) & (b <= n) & (c == 0), Instr::Jmp(b)),
-        0 | 10..=255 => InstrRead::Bad,
+        10 => keep(
+            (SECOND_VERSION <= version) & (a < REGISTERS_EACH) & (b < vars),
+            Instr::Cmpx(a, b, c),
+        ),
+        11 => keep(
+            (SECOND_VERSION <= version) & (a == 0) & (b == 0) & (c == 0),
+            Instr::Wfence,
+        ),
+        0 | 12..=255 => InstrRead::Bad,
     }
 }
 

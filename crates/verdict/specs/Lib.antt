@@ -5,3 +5,4 @@ pub mod Unique
 pub mod Steps
 pub mod Deciding
 pub mod Pins
+pub mod Versions

@@ -6,7 +6,7 @@ use std::path::Path;
 use std::process::ExitCode;
 use std::{env, fs, io};
 
-const USAGE: &str = "use one of (each writes DIR/stdin and DIR/stdout, and prints how many cases have long threads, replay also how many are stuck by which reason, fences how many have dead code):
+const USAGE: &str = "use one of (each writes DIR/stdin and DIR/stdout, and prints how many cases have long threads and how many are of version 2, replay also how many are stuck by which reason, fences how many have dead code):
   cases job DIR
   cases search DIR
   cases replay DIR
@@ -39,7 +39,7 @@ struct Kind {
     cases: Vec<u8>,
     /// What the program under test has to print.
     lines: String,
-    /// How many of the cases have long threads, for replay are stuck by which reason, and for the fence check have dead code.
+    /// A line for each thing that the cases are counted by.
     counts: String,
 }
 
@@ -58,7 +58,11 @@ fn of_decoder() -> Kind {
     Kind {
         cases: cases.iter().flat_map(|job| counted(job)).collect(),
         lines: cases.iter().map(|job| job_cases::line(job)).collect(),
-        counts: counts_line("job_cases", &job_cases::counts_of_long_threads()),
+        counts: [
+            counts_line("job_cases", &job_cases::counts_of_long_threads()),
+            counts_line("job_cases, version 2", &job_cases::counts_of_version_two()),
+        ]
+        .join("\n"),
     }
 }
 
@@ -67,7 +71,14 @@ fn of_search() -> Kind {
     Kind {
         cases: cases.iter().flat_map(sized).collect(),
         lines: cases.iter().map(search_cases::lines).collect(),
-        counts: counts_line("search_cases", &search_cases::counts_of_long_threads()),
+        counts: [
+            counts_line("search_cases", &search_cases::counts_of_long_threads()),
+            counts_line(
+                "search_cases, version 2",
+                &search_cases::counts_of_version_two(),
+            ),
+        ]
+        .join("\n"),
     }
 }
 
@@ -76,12 +87,14 @@ fn of_replay() -> Kind {
     let lines = cases.iter().map(|case| replay_cases::line(case) + "\n");
     let long_threads = replay_cases::counts_of_long_threads();
     let reasons = replay_cases::counts_of_reasons();
+    let version_two = replay_cases::counts_of_version_two();
     Kind {
         cases: cases.iter().flat_map(scheduled).collect(),
         lines: lines.collect(),
         counts: [
             counts_line("replay_cases", &long_threads),
             counts_line("replay_cases, reasons", &reasons),
+            counts_line("replay_cases, version 2", &version_two),
         ]
         .join("\n"),
     }
@@ -92,12 +105,14 @@ fn of_fence_check() -> Kind {
     let lines = cases.iter().map(|job| fence_cases::line(job) + "\n");
     let long_threads = fence_cases::counts_of_long_threads();
     let dead_code = fence_cases::counts_of_dead_code();
+    let version_two = fence_cases::counts_of_version_two();
     Kind {
         cases: cases.iter().flat_map(|job| counted(job)).collect(),
         lines: lines.collect(),
         counts: [
             counts_line("fence_cases", &long_threads),
             counts_line("fence_cases, dead code", &dead_code),
+            counts_line("fence_cases, version 2", &version_two),
         ]
         .join("\n"),
     }

@@ -6,6 +6,7 @@ use Prim.Native.Nat.{ℕ, _+_, _*_, _-_}
 use native.Mathlib.Omega.{arith}
 use lib.ListN.{getD}
 use borrow.Author.Tests.{eq-eqb, ne-eqb}
+use Rattle.buffer.specs.Held.{number}
 use Rattle.buffer.proofs.ReadLaws.{Seen, seen-starts, seen-goes-on, seen-ends}
 use Rattle.buffer.proofs.newest.Statement.{statement}
 use Rattle.buffer.proofs.newest.Tie as tie
@@ -14,7 +15,7 @@ abbrev Inv-loop : tie.InvT-loop
 Inv-loop v memory b n seen₀ i₀ seen i = Seen v memory b seen i
 
 abbrev μ-loop : tie.MeasureT-loop
-μ-loop v memory b n seen₀ i₀ seen i = b .len - i
+μ-loop v memory b n seen₀ i₀ seen i = number b - i
 
 cast-n : tie.Need-cast-n Inv-loop μ-loop
 cast-n c = omega arith

@@ -5,8 +5,7 @@ use native.Mathlib.Omega.{arith}
 use lib.ListN.{drop}
 use borrow.Author.Tests.{not-true, not-false}
 use Rattle.rules.specs.Limits.{most-threads}
-use Rattle.rules.specs.Step.{is-empty}
-use Rattle.rules.specs.Goal.{every}
+use Rattle.rules.specs.Goal.{every, nothing-pending}
 use Rattle.state.specs.Held.{held}
 use Rattle.state.proofs.PartLaws.{buffer-read}
 use Rattle.engine.proofs.EveryLaws.{test-first, tests-end}
@@ -16,7 +15,7 @@ use Rattle.engine.proofs.all_empty.Tie as tie
 
 abbrev Inv-loop : tie.InvT-loop
 Inv-loop s t₀ t =
-    (t ≤ most-threads) × (every is-empty (held s .buffers) ≡ every is-empty (drop t (held s .buffers)))
+    (t ≤ most-threads) × (every nothing-pending (held s .buffers) ≡ every nothing-pending (drop t (held s .buffers)))
 
 abbrev μ-loop : tie.MeasureT-loop
 μ-loop s t₀ t = most-threads - t
@@ -44,7 +43,7 @@ returns c =
     let own = buffer-read (start .args .t1) (start .pre) (l .t) below in
     sym
     (l .inv .1
-    ∙ test-first is-empty (held (start .args .t1) .buffers) (l .t) _ (buffer-at (start .args .t1) (start .pre) _ below)
+    ∙ test-first nothing-pending (held (start .args .t1) .buffers) (l .t) _ (buffer-at (start .args .t1) (start .pre) _ below)
     (empty-as own (c .before .is-empty .ensures) (not-true _ (c .if1 .taken))))
 
 add-t : tie.Need-add-t Inv-loop μ-loop
@@ -61,7 +60,7 @@ loop-again c =
     let own = buffer-read (start .args .t1) (start .pre) (l .t) below in (
       omega (arith, below),
       l .inv .1
-          ∙ test-first is-empty (held (start .args .t1) .buffers) (l .t) _ (buffer-at (start .args .t1) (start .pre) _ below)
+          ∙ test-first nothing-pending (held (start .args .t1) .buffers) (l .t) _ (buffer-at (start .args .t1) (start .pre) _ below)
           (empty-as own (c .before .is-empty .ensures) (not-false _ (c .if1 .left))),
     )
 
@@ -71,7 +70,7 @@ returns-2 c =
     let l = c .before .loop in
     sym
     (l .inv .1
-    ∙ tests-end is-empty (held (start .args .t1) .buffers) (l .t)
+    ∙ tests-end nothing-pending (held (start .args .t1) .buffers) (l .t)
     (omega (arith, buffers-held (start .args .t1) (start .pre), c .loop-test .left)))
 
 pub all-empty-spec : {M : Type 1} → statement M

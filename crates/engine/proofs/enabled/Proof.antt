@@ -2,6 +2,7 @@
 use mathlib.Core.Path.{_≡_, ap, _∙_}
 use Prim.Native.Nat.{_+_, _-_, _*_, _≤_}
 use native.Mathlib.Omega.{arith}
+use Rattle.buffer.specs.Posts.{stores-held}
 use Rattle.rules.specs.Limits.{most-threads, most-variables}
 use Rattle.rules.specs.File.{job-of}
 use Rattle.rules.specs.Step.{enabled-below, enabled}
@@ -57,10 +58,10 @@ loop-again c =
     let start = c .before .before .before .before .before .before in
     let a = start .pre .accepted in
     let below = c .before .before .loop-test .taken in
-    let own = buffer-read _ (start .pre .ok) _ (thread-low a below) .held in (
+    let own = stores-held (buffer-read _ (start .pre .ok) _ (thread-low a below)) in (
       omega (arith, below),
       c .flushes .ensures (job-of _) _
-          (record { model = a .laid .model; variables = a .laid .vars; thread = thread-there a below; pending = own })
+          (record { model = a .laid .model; variables = a .laid .vars; thread = thread-there a below; stores = own })
           (c .before .before .before .loop .inv .1),
     )
 

@@ -3,6 +3,8 @@ use mathlib.Core.Path.{refl}
 use borrow.Author.Needs.{needs}
 use Rattle.rules.specs.Step.{after-execute}
 use Rattle.rules.specs.File.{job-of}
+use Rattle.rules.specs.Keeps.{buffer-in}
+use Rattle.rules.specs.SlotLaws.{group-fits}
 use Rattle.state.specs.InRange.{runs}
 use Rattle.state.proofs.PartLaws.{holds-as}
 use Rattle.engine.proofs.StepLaws.{operands-by-read, free-by-read, after-by-read}
@@ -28,7 +30,10 @@ execute-requires c κs =
       runs (job-of _) (a .accepted .in-range) _ (a .ok) (a .well) _ (start .pre .1 .0),
       (
         operands-by-read (a .accepted) _ _ read i,
-        free-by-read (a .accepted) _ _ read _ (start .pre .1 .0) place i (start .pre .1 .1),
+        (
+          free-by-read (a .accepted) _ _ read _ (start .pre .1 .0) place i (start .pre .1 .1),
+          group-fits (job-of _) (a .accepted .in-range) _ (buffer-in (job-of _) _ (a .well) _),
+        ),
       ),
     )
 

@@ -5,6 +5,7 @@ use native.Mathlib.Omega.{arith}
 use Rattle.rules.specs.File.{job-of}
 use Rattle.rules.specs.State.{place}
 use Rattle.rules.specs.Step.{is-yes, enabled-below}
+use Rattle.buffer.specs.Posts.{stores-held}
 use Rattle.state.specs.Held.{held}
 use Rattle.state.proofs.PartLaws.{buffer-read}
 use Rattle.engine.specs.Mask.{enabled-builds}
@@ -68,7 +69,7 @@ loop-again c =
     let l = c .before .before .before .before .before .before .loop in
     let may =
     c .before .before .may-execute .ensures
-    ∙ may-of-execute _ _ _ low (thread-there a below) refl (buffer-read _ (start .pre .ok) _ low .held) in
+    ∙ may-of-execute _ _ _ low (thread-there a below) refl (stores-held (buffer-read _ (start .pre .ok) _ low)) in
     (omega (arith, below), enabled-more (job-of _) _ _ _ _ _ (l .inv .1) (c .before .is-yes .ensures ∙ ap is-yes may) (c .with-bit .ensures))
 
 returns : tie.Need-returns Inv-loop μ-loop

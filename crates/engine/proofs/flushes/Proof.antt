@@ -10,7 +10,7 @@ use Rattle.rules.specs.Limits.{most-threads, most-variables}
 use Rattle.rules.specs.State.{State}
 use Rattle.rules.specs.Job.{Job}
 use Rattle.rules.specs.Step.{is-empty, is-yes, enabled-below}
-use Rattle.buffer.specs.Held.{held-buffer}
+use Rattle.buffer.specs.Held.{held-pending}
 use Rattle.engine.specs.At.{FlushesOf}
 use Rattle.engine.proofs.MaskLaws.{enabled-more, empty-adds-none, absent-variables-add-none}
 use Rattle.engine.proofs.StepLaws.{may-flush-at}
@@ -21,7 +21,7 @@ abbrev Inv-loop : tie.InvT-loop
 Inv-loop model vars pending t before mask₀ v₀ mask v =
     (v ≤ vars)
     × (mask < 2 ^ (most-threads + most-variables * t + v))
-    × ((j : Job) (x : State) → FlushesOf j x model vars t (held-buffer pending) →
+    × ((j : Job) (x : State) → FlushesOf j x model vars t (held-pending pending) →
     before ≡ enabled-below j x (most-threads + most-variables * t) → mask ≡ enabled-below j x (most-threads + most-variables * t + v))
 
 abbrev μ-loop : tie.MeasureT-loop
@@ -34,7 +34,7 @@ returns : tie.Need-returns Inv-loop μ-loop
 returns c = λ j x of e.
     let pre = c .before .before .pre in
     let few : length (j .initial) ≤ most-variables = omega (arith, pre .1 .0, of .variables) in
-    let empty = ap is-empty (sym (of .pending)) ∙ sym (c .before .is-empty .ensures) ∙ c .if1 .taken in
+    let empty = ap is-empty (sym (of .stores)) ∙ sym (c .before .is-empty .ensures) ∙ c .if1 .taken in
     e ∙ empty-adds-none j x _ (pre .1 .1 .0) (of .thread) few empty
 
 loop-holds : tie.Need-loop-holds Inv-loop μ-loop
@@ -76,7 +76,7 @@ loop-again c =
       rw (more, add-one, c .with-bit .ensures) (added-below (c .before .is-yes .result) _ step (l .inv .1)),
       λ j x of e.
           let used : l .v < length (j .initial) = omega (arith, below, of .variables) in
-          let may = c .before .before .may-flush .ensures ∙ may-flush-at j x _ _ (start .pre .1 .1 .0) small (of .thread) used (of .model) (of .pending) in
+          let may = c .before .before .may-flush .ensures ∙ may-flush-at j x _ _ (start .pre .1 .1 .0) small (of .thread) used (of .model) (of .stores) in
           rw more (enabled-more j x step _ _ _ (l .inv .2 j x of e) (c .before .is-yes .ensures ∙ ap is-yes may) (c .with-bit .ensures)),
     )
 

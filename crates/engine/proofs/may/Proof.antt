@@ -2,6 +2,7 @@
 use mathlib.Core.Path.{sym, _∙_}
 use mathlib.Core.Logic.{inl, inr}
 use borrow.Author.Needs.{needs}
+use Rattle.buffer.specs.Posts.{stores-held}
 use Rattle.rules.specs.Step.{flush-thread, flush-variable}
 use Rattle.engine.proofs.StepLaws.{may-of-execute, may-of-flush, no-execute, no-flush, few-threads, thread-there, thread-low, thread-absent, variable-there, variable-absent}
 use Rattle.engine.proofs.may.Statement.{statement}
@@ -26,7 +27,7 @@ returns c =
     let a = c .before .before .before .before .before .before .pre .accepted in
     let below = c .before .before .before .if1 .taken in
     c .may-execute .ensures
-    ∙ may-of-execute _ _ _ (thread-low a below) (thread-there a below) (c .before .before .place .ensures) (c .before .buffer .ensures .held)
+    ∙ may-of-execute _ _ _ (thread-low a below) (thread-there a below) (c .before .before .place .ensures) (stores-held (c .before .buffer .ensures))
 
 buffer-requires-2 : tie.Need-buffer-requires-2
 buffer-requires-2 c κs = search needs
@@ -41,7 +42,7 @@ returns-2 c =
     c .may-flush .ensures
     ∙ may-of-flush _ _ _ (c .before .before .before .before .before .before .if2 .taken) (few-threads a)
     (thread-there a (c .before .before .before .before .if3 .taken)) (variable-there a (c .before .before .if4 .taken))
-    (a .laid .model) (c .before .buffer2 .ensures .held)
+    (a .laid .model) (stores-held (c .before .buffer2 .ensures))
 
 returns-3 : tie.Need-returns-3
 unfolding flush-variable

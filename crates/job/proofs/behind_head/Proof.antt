@@ -15,10 +15,10 @@ values-there : (c : tie.Else1) → let bytes = c .before .before .before .before
 values-there c = values-stage-there _ (omega (arith, c .before .wide .ensures .0))
 
 threads-are : (c : tie.After-threads) →
-    let bytes = c .before .before .before .before .before .before .args .job .now in
+    let bytes = c .before .before .before .before .before .before .before .args .job .now in
     c .threads .result ≡ passed (threads-read bytes (count-in bytes))
 unfolding threads-read
-threads-are c = rw (c .before .before .before .wide .ensures .0) at (c .threads .ensures)
+threads-are c = rw (c .before .before .before .before .wide .ensures .0) at (c .threads .ensures)
 
 shared-slice-read-vars : tie.Need-shared-slice-read-vars
 shared-slice-read-vars c = search needs
@@ -38,6 +38,9 @@ returns c =
 shared-slice-read-threads : tie.Need-shared-slice-read-threads
 shared-slice-read-threads c = search needs
 
+shared-slice-read-threads-2 : tie.Need-shared-slice-read-threads-2
+shared-slice-read-threads-2 c = search needs
+
 threads-requires : tie.Need-threads-requires
 threads-requires c κs = search needs
 
@@ -46,7 +49,7 @@ enum-told c = search needs
 
 starts-requires : tie.Need-starts-requires
 starts-requires c κs =
-    record { head = c .before .before .before .before .before .before .before .before .pre; end = _; read = sym (threads-are (c .before .before)) ∙ c .enum-told .given .1 }
+    record { head = c .before .before .before .before .before .before .before .before .before .pre; end = _; read = sym (threads-are (c .before .before)) ∙ c .enum-told .given .1 }
 
 goal-requires : tie.Need-goal-requires
 goal-requires c κs = search needs
@@ -56,11 +59,11 @@ enum-known-number c = search needs
 
 returns-2 : tie.Need-returns-2
 unfolding rest-stage
-returns-2 c = rw (values-there (c .before .before .before .before .before .before), c .before .starts .ensures .goal) (c .goal .ensures)
+returns-2 c = rw (values-there (c .before .before .before .before .before .before .before), c .before .starts .ensures .goal) (c .goal .ensures)
 
 returns-3 : tie.Need-returns-3
 unfolding rest-stage
-returns-3 c = rw (values-there (c .before .before .before .before .before), ← threads-are (c .before .before .before), c .before .number .given .1)
+returns-3 c = rw (values-there (c .before .before .before .before .before .before), ← threads-are (c .before .before .before), c .before .number .given .1)
 
 pub behind-head-spec : {M : Type 1} → statement M
 behind-head-spec =
@@ -71,6 +74,7 @@ behind-head-spec =
     add-start
     returns
     shared-slice-read-threads
+    shared-slice-read-threads-2
     threads-requires
     enum-told
     starts-requires

@@ -28,6 +28,12 @@ enum-known-i c = search needs
 enum-known-i-2 : tie.Need-enum-known-i-2
 enum-known-i-2 c = search needs
 
+enum-told-7 : tie.Need-enum-told-7
+enum-told-7 c = search needs
+
+enum-told-8 : tie.Need-enum-told-8
+enum-told-8 c = search needs
+
 returns : tie.Need-returns
 unfolding control-of
 returns c = rw (c .enum-told .given .1)
@@ -60,6 +66,14 @@ returns-8 : tie.Need-returns-8
 unfolding control-of
 returns-8 c = rw (c .before .i2 .given .1)
 
+returns-9 : tie.Need-returns-9
+unfolding control-of
+returns-9 c = rw (c .enum-told7 .given .1)
+
+returns-10 : tie.Need-returns-10
+unfolding control-of
+returns-10 c = rw (c .enum-told8 .given .1)
+
 pub control-of-spec : {M : Type 1} → statement M
 control-of-spec =
     tie.close
@@ -72,6 +86,8 @@ control-of-spec =
     enum-told-6
     enum-known-i
     enum-known-i-2
+    enum-told-7
+    enum-told-8
     returns
     returns-2
     returns-3
@@ -79,4 +95,6 @@ control-of-spec =
     returns-5
     returns-6
     returns-7
-    returns-8)
+    returns-8
+    returns-9
+    returns-10)

@@ -28,6 +28,12 @@ enum-told-7 c = search needs
 enum-told-8 : tie.Need-enum-told-8
 enum-told-8 c = search needs
 
+enum-told-9 : tie.Need-enum-told-9
+enum-told-9 c = search needs
+
+enum-told-10 : tie.Need-enum-told-10
+enum-told-10 c = search needs
+
 returns : tie.Need-returns
 unfolding role-of
 returns c = rw (c .enum-told .given .1)
@@ -60,6 +66,14 @@ returns-8 : tie.Need-returns-8
 unfolding role-of
 returns-8 c = rw (c .enum-told8 .given .1)
 
+returns-9 : tie.Need-returns-9
+unfolding role-of
+returns-9 c = rw (c .enum-told9 .given .1)
+
+returns-10 : tie.Need-returns-10
+unfolding role-of
+returns-10 c = rw (c .enum-told10 .given .1)
+
 pub role-of-spec : {M : Type 1} → statement M
 role-of-spec =
     tie.close
@@ -72,6 +86,8 @@ role-of-spec =
     enum-told-6
     enum-told-7
     enum-told-8
+    enum-told-9
+    enum-told-10
     returns
     returns-2
     returns-3
@@ -79,4 +95,6 @@ role-of-spec =
     returns-5
     returns-6
     returns-7
-    returns-8)
+    returns-8
+    returns-9
+    returns-10)

@@ -11,11 +11,11 @@ use Rattle.readers.proofs.instructions.Statement.{statement}
 use Rattle.readers.proofs.instructions.Tie as tie
 
 abbrev Inv-loop : tie.InvT-loop
-Inv-loop job vars n start at₀ i₀ at i =
-    (i ≤ n) × (passed (times n (instruction job vars n) start) ≡ passed (times (n - i) (instruction job vars n) at))
+Inv-loop job version vars n start at₀ i₀ at i =
+    (i ≤ n) × (passed (times n (instruction job version vars n) start) ≡ passed (times (n - i) (instruction job version vars n) at))
 
 abbrev μ-loop : tie.MeasureT-loop
-μ-loop job vars n start at₀ i₀ at i = n - i
+μ-loop job version vars n start at₀ i₀ at i = n - i
 
 loop-holds : tie.Need-loop-holds Inv-loop μ-loop
 loop-holds c = (omega arith, rw sub-zero)

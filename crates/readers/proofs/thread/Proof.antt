@@ -21,10 +21,10 @@ enum-known-number : tie.Need-enum-known-number
 enum-known-number c = search needs
 
 returns : tie.Need-returns
-returns c = rw (thread-passed _ _ _, ← (c .before .before .before .before .before .field .ensures), c .before .before .before .next .given .1) (c .instructions .ensures)
+returns c = rw (thread-passed _ _ _ _, ← (c .before .before .before .before .before .field .ensures), c .before .before .before .next .given .1) (c .instructions .ensures)
 
 returns-2 : tie.Need-returns-2
-returns-2 c = rw (thread-passed _ _ _, ← (c .before .before .before .field .ensures), c .before .number .given .1)
+returns-2 c = rw (thread-passed _ _ _ _, ← (c .before .before .before .field .ensures), c .before .number .given .1)
 
 pub thread-spec : {M : Type 1} → statement M
 thread-spec =

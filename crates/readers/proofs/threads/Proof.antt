@@ -11,11 +11,11 @@ use Rattle.readers.proofs.threads.Statement.{statement}
 use Rattle.readers.proofs.threads.Tie as tie
 
 abbrev Inv-loop : tie.InvT-loop
-Inv-loop job vars count start at₀ t₀ at t =
-    (t ≤ count) × (passed (times count (thread job vars) start) ≡ passed (times (count - t) (thread job vars) at))
+Inv-loop job version vars count start at₀ t₀ at t =
+    (t ≤ count) × (passed (times count (thread job version vars) start) ≡ passed (times (count - t) (thread job version vars) at))
 
 abbrev μ-loop : tie.MeasureT-loop
-μ-loop job vars count start at₀ t₀ at t = count - t
+μ-loop job version vars count start at₀ t₀ at t = count - t
 
 loop-holds : tie.Need-loop-holds Inv-loop μ-loop
 loop-holds c = (omega arith, rw sub-zero)

@@ -5,7 +5,7 @@ use Prim.Native.Nat.{ℕ, _+_, _≤_}
 use native.Mathlib.Omega.{arith}
 use borrow.Author.Needs.{needs}
 use lib.ListN.{List·getD-eq-default}
-use Rattle.rules.specs.File.{instruction-of, register-ok, zero-ok}
+use Rattle.rules.specs.File.{instruction-of, register-ok, zero-ok, from-second}
 use Rattle.tables.proofs.instruction.Statement.{statement}
 use Rattle.tables.proofs.instruction.Tie as tie
 
@@ -35,6 +35,12 @@ keep-requires-8 c κs = search needs
 
 keep-requires-9 : tie.Need-keep-requires-9
 keep-requires-9 c κs = search needs
+
+keep-requires-10 : tie.Need-keep-requires-10
+keep-requires-10 c κs = search needs
+
+keep-requires-11 : tie.Need-keep-requires-11
+keep-requires-11 c κs = search needs
 
 returns : tie.Need-returns
 unfolding instruction-of register-ok zero-ok
@@ -73,24 +79,37 @@ unfolding instruction-of register-ok zero-ok
 returns-9 c = rw (c .before .match .keys9) (c .keep9 .ensures)
 
 returns-10 : tie.Need-returns-10
+unfolding instruction-of register-ok from-second
+returns-10 c = rw (c .before .match .keys10) (c .keep10 .ensures)
+
+returns-11 : tie.Need-returns-11
+unfolding instruction-of zero-ok from-second
+returns-11 c = rw (c .before .match .keys11) (c .keep11 .ensures)
+
+returns-12 : tie.Need-returns-12
 unfolding instruction-of
-returns-10 c = rw (c .match .keys10)
+returns-12 c = rw (c .match .keys12)
 
 -- omega tells at most six numbers from one
 five-more : (n k : ℕ) → k ≤ n → ¬ (n ≡ k) → ¬ (n ≡ k + 1) → ¬ (n ≡ k + 2) → ¬ (n ≡ k + 3) → ¬ (n ≡ k + 4) → k + 5 ≤ n
 five-more n k h a b c d e = omega arith
 
-beyond : (vars n op a b c : ℕ) → 10 ≤ op → none ≡ instruction-of vars n op a b c
-unfolding instruction-of
-beyond vars n op a b c h = rw (List·getD-eq-default _ _ h)
+two-more : (n k : ℕ) → k ≤ n → ¬ (n ≡ k) → ¬ (n ≡ k + 1) → k + 2 ≤ n
+two-more n k h a b = omega arith
 
-returns-11 : tie.Need-returns-11
-returns-11 c =
+beyond : (version vars n op a b c : ℕ) → 12 ≤ op → none ≡ instruction-of version vars n op a b c
+unfolding instruction-of
+beyond version vars n op a b c h = rw (List·getD-eq-default _ _ h)
+
+returns-13 : tie.Need-returns-13
+returns-13 c =
     let op = c .before .args .op in
     let r = c .match .rest in
-    let s = r .0 .0 .0 .0 .0 in
+    let q = r .0 .0 .0 in
+    let s = q .0 .0 .0 .0 in
     let low = five-more op 0 (omega arith) (r .1) (s .0 .0 .0 .0 .1) (s .0 .0 .0 .1) (s .0 .0 .1) (s .0 .1) in
-    beyond _ _ _ _ _ _ (five-more op 5 low (s .1) (r .0 .0 .0 .0 .1) (r .0 .0 .0 .1) (r .0 .0 .1) (r .0 .1))
+    let high = five-more op 5 low (s .1) (q .0 .0 .0 .1) (q .0 .0 .1) (q .0 .1) (q .1) in
+    beyond _ _ _ _ _ _ _ (two-more op 10 high (r .0 .0 .1) (r .0 .1))
 
 pub instruction-spec : {M : Type 1} → statement M
 instruction-spec =
@@ -105,6 +124,8 @@ instruction-spec =
     keep-requires-7
     keep-requires-8
     keep-requires-9
+    keep-requires-10
+    keep-requires-11
     returns
     returns-2
     returns-3
@@ -115,4 +136,6 @@ instruction-spec =
     returns-8
     returns-9
     returns-10
-    returns-11)
+    returns-11
+    returns-12
+    returns-13)

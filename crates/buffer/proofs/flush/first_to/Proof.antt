@@ -3,6 +3,7 @@ use Prim.Native.Nat.{_-_}
 use native.Mathlib.Omega.{arith}
 use borrow.Author.Tests.{eq-eqb, ne-eqb}
 use Rattle.buffer.specs.Places.{is-to}
+use Rattle.buffer.specs.Held.{number}
 use Rattle.buffer.proofs.ReadLaws.{Searched, search-starts, search-finds, search-goes-on, search-ends}
 use Rattle.buffer.proofs.flush.first_to.Statement.{statement}
 use Rattle.buffer.proofs.flush.first_to.Tie as tie
@@ -11,7 +12,7 @@ abbrev Inv-loop : tie.InvT-loop
 Inv-loop v b n i₀ i = Searched (is-to v) b i
 
 abbrev μ-loop : tie.MeasureT-loop
-μ-loop v b n i₀ i = b .len - i
+μ-loop v b n i₀ i = number b - i
 
 cast-n : tie.Need-cast-n Inv-loop μ-loop
 cast-n c = omega arith

@@ -16,11 +16,8 @@ may-flush-oldest-requires c κs = search needs
 enum-told-3 : tie.Need-enum-told-3
 enum-told-3 c = search needs
 
-is-pending-to-requires : tie.Need-is-pending-to-requires
-is-pending-to-requires c κs = search needs
-
-needs-requires : tie.Need-needs-requires
-needs-requires c κs = search needs
+may-flush-oldest-group-requires : tie.Need-may-flush-oldest-group-requires
+may-flush-oldest-group-requires c κs = search needs
 
 returns : tie.Need-returns
 unfolding may-flush
@@ -30,8 +27,7 @@ returns-2 : tie.Need-returns-2
 returns-2 c = rw (c .before .enum-told2 .given .1) (c .may-flush-oldest .ensures)
 
 returns-3 : tie.Need-returns-3
-unfolding may-flush
-returns-3 c = rw (c .before .before .enum-told3 .given .1, ← c .before .is-pending-to .ensures) (c .needs .ensures)
+returns-3 c = rw (c .before .enum-told3 .given .1) (c .may-flush-oldest-group .ensures)
 
 pub may-flush-spec : {M : Type 1} → statement M
 may-flush-spec =
@@ -41,8 +37,7 @@ may-flush-spec =
     enum-told-2
     may-flush-oldest-requires
     enum-told-3
-    is-pending-to-requires
-    needs-requires
+    may-flush-oldest-group-requires
     returns
     returns-2
     returns-3)

@@ -23,18 +23,12 @@ returns c =
     let oldest = sym (c .before .is-oldest-to .ensures) ∙ c .if1 .taken in
     rw (oldest-pending _ _ oldest, oldest)
 
-is-pending-to-requires : tie.Need-is-pending-to-requires
-is-pending-to-requires c κs = search needs
+why-not-requires : tie.Need-why-not-requires
+why-not-requires c κs = search needs
 
 returns-2 : tie.Need-returns-2
 unfolding may-flush
-returns-2 c =
-    let pending = sym (c .before .is-pending-to .ensures) ∙ c .if2 .taken in
-    rw (pending, ← c .before .before .before .is-oldest-to .ensures, c .before .before .if1 .left)
-
-returns-3 : tie.Need-returns-3
-unfolding may-flush
-returns-3 c = rw (← c .before .is-pending-to .ensures, c .if2 .left)
+returns-2 c = rw (sym (c .before .before .is-oldest-to .ensures) ∙ c .before .if1 .left) (c .why-not .ensures)
 
 pub may-flush-oldest-spec : {M : Type 1} → statement M
-may-flush-oldest-spec = tie.close (tie.spec is-oldest-to-requires returns is-pending-to-requires returns-2 returns-3)
+may-flush-oldest-spec = tie.close (tie.spec is-oldest-to-requires returns why-not-requires returns-2)

@@ -1,19 +1,21 @@
 -- `buffer::join::first_after` meets its contract. The invariant: what is left to search decides.
-use mathlib.Core.Path.{ap}
+use mathlib.Core.Path.{ap, _∙_}
 use mathlib.Core.Bool.{not}
 use Prim.Native.Nat.{_-_}
 use native.Mathlib.Omega.{arith}
 use borrow.Author.Tests.{lt-leb, le-leb}
 use Rattle.buffer.specs.Places.{is-after}
+use Rattle.buffer.specs.Held.{pair, number}
+use Rattle.buffer.proofs.PlaceLaws.{before-by-byte}
 use Rattle.buffer.proofs.ReadLaws.{Searched, search-starts, search-finds, search-goes-on, search-ends}
 use Rattle.buffer.proofs.join.first_after.Statement.{statement}
 use Rattle.buffer.proofs.join.first_after.Tie as tie
 
 abbrev Inv-loop : tie.InvT-loop
-Inv-loop v b n i₀ i = Searched (is-after v) b i
+Inv-loop byte k b n i₀ i = Searched (is-after (pair byte k)) b i
 
 abbrev μ-loop : tie.MeasureT-loop
-μ-loop v b n i₀ i = b .len - i
+μ-loop byte k b n i₀ i = number b - i
 
 cast-n : tie.Need-cast-n Inv-loop μ-loop
 cast-n c = omega arith
@@ -31,7 +33,7 @@ returns : tie.Need-returns Inv-loop μ-loop
 returns c =
     let start = c .before .before .before .before in
     let l = c .before .before .before .loop in
-    search-finds (start .args .t1) (start .pre) _ (l .i) (c .before .before .loop-test .taken) (ap not (lt-leb _ _ (c .if1 .taken))) (l .inv)
+    search-finds (start .args .t1) (start .pre) _ (l .i) (c .before .before .loop-test .taken) (ap not (before-by-byte _ _ _ _ ∙ lt-leb _ _ (c .if1 .taken))) (l .inv)
 
 add-i : tie.Need-add-i Inv-loop μ-loop
 add-i c = omega arith
@@ -43,7 +45,7 @@ loop-again : tie.Need-loop-again Inv-loop μ-loop
 loop-again c =
     let start = c .before .before .before .before in
     let l = c .before .before .before .loop in
-    search-goes-on (start .args .t1) (start .pre) _ (l .i) (c .before .before .loop-test .taken) (ap not (le-leb _ _ (c .if1 .left))) (l .inv)
+    search-goes-on (start .args .t1) (start .pre) _ (l .i) (c .before .before .loop-test .taken) (ap not (before-by-byte _ _ _ _ ∙ le-leb _ _ (c .if1 .left))) (l .inv)
 
 returns-2 : tie.Need-returns-2 Inv-loop μ-loop
 returns-2 c =

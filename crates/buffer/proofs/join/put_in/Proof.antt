@@ -2,7 +2,7 @@
 use mathlib.Core.Path.{refl}
 use Prim.Native.Nat.{_+_, _-_, _≤_}
 use native.Mathlib.Omega.{arith}
-use Rattle.buffer.specs.Held.{pairs}
+use Rattle.buffer.specs.Held.{pair, pairs}
 use Rattle.buffer.specs.Places.{with-at}
 use Rattle.buffer.proofs.CarryLaws.{Carried, carried-up, put-in-holds}
 use Rattle.buffer.proofs.join.put_in.Statement.{statement}
@@ -10,7 +10,7 @@ use Rattle.buffer.proofs.join.put_in.Tie as tie
 
 abbrev Inv-loop : tie.InvT-loop
 Inv-loop b at v k n s₀ variable₀ value₀ i₀ s variable value i =
-    Carried s variable value i (with-at at (record { variable = v; value = k }) (pairs s₀)) × (i ≤ n + 1)
+    Carried s variable value i (with-at at (pair v k) (pairs s₀)) × (i ≤ n + 1)
 
 abbrev μ-loop : tie.MeasureT-loop
 μ-loop b at v k n s₀ variable₀ value₀ i₀ s variable value i = n + 1 - i
@@ -50,15 +50,15 @@ loop-again c =
     let l = c .before .loop in
     (carried-up (l .s) (l .variable) (l .value) (l .i) _ (l .inv .0) (omega arith), omega arith)
 
-add-len : tie.Need-add-len Inv-loop μ-loop
-add-len c = omega arith
+add-count : tie.Need-add-count Inv-loop μ-loop
+add-count c = omega arith
 
 returns : tie.Need-returns Inv-loop μ-loop
 returns c =
     let l = c .before .before .loop in
     let start = c .before .before .before .before .before in
     let a = start .args in
-    put-in-holds (a .b) (a .at) (a .v) (a .k) (start .pre) (l .s) (l .variable) (l .value) (l .i) (l .inv .0) (omega arith)
+    put-in-holds (a .b) (a .at) (a .byte) (a .k) (start .pre) (l .s) (l .variable) (l .value) (l .i) (l .inv .0) (omega arith)
 
 pub put-in-spec : {M : Type 1} → statement M
 put-in-spec =
@@ -77,5 +77,5 @@ put-in-spec =
     add-i
     loop-less
     loop-again
-    add-len
+    add-count
     returns)

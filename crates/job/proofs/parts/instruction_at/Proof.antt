@@ -33,10 +33,13 @@ instruction-start-requires c κs = (c .before .before .before .pre .laid .starts
 shared-slice-read-instruction-from : tie.Need-shared-slice-read-instruction-from
 shared-slice-read-instruction-from c = search needs
 
+shared-slice-read-instruction-from-2 : tie.Need-shared-slice-read-instruction-from-2
+shared-slice-read-instruction-from-2 c = search needs
+
 instruction-from-requires : tie.Need-instruction-from-requires
 instruction-from-requires c κs =
-    let d = c .before .before in
-    rw (c .before .instruction-start .ensures) (place-inside (d .before .before .before .pre .laid .starts) _ _ (within d))
+    let d = c .before .before .before in
+    rw (c .before .before .instruction-start .ensures) (place-inside (d .before .before .before .pre .laid .starts) _ _ (within d))
 
 at-place-requires : tie.Need-at-place-requires
 at-place-requires c κs = search needs
@@ -44,11 +47,11 @@ at-place-requires c κs = search needs
 returns-2 : tie.Need-returns-2
 unfolding instruction-at
 returns-2 c =
-    let d = c .before .before .before .before in
+    let d = c .before .before .before .before .before in
     let start = d .before .before .before in
     c .at-place .ensures
     ∙ c .before .instruction-from .ensures
-    ∙ rw (c .before .before .before .instruction-start .ensures, d .before .code-length .ensures, ← (start .pre .laid .code)) (place-holds (start .pre .laid .starts) (start .args .t) (start .args .p) (within d))
+    ∙ rw (c .before .before .before .before .instruction-start .ensures, d .before .code-length .ensures, ← (start .pre .laid .code)) (place-holds (start .pre .laid .starts) (start .args .t) (start .args .p) (within d))
     ∙ sym (at-of-at (job-of (start .args .job .now) .threads) (start .args .t) (start .args .p))
 
 pub instruction-at-spec : {M : Type 1} → statement M
@@ -59,6 +62,7 @@ instruction-at-spec =
     returns
     instruction-start-requires
     shared-slice-read-instruction-from
+    shared-slice-read-instruction-from-2
     instruction-from-requires
     at-place-requires
     returns-2)

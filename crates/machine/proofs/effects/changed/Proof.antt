@@ -1,5 +1,6 @@
 -- `machine::effects::changed` meets its contract: by the instruction.
 use mathlib.Core.Path.{refl}
+use native.Mathlib.Omega.{arith}
 use borrow.Author.Needs.{needs}
 use Rattle.rules.specs.Step.{free, changed}
 use Rattle.rules.specs.MayLaws.{needs-yes}
@@ -46,7 +47,7 @@ unfolding free wait-of
 stored-requires c κs =
     let start = c .before .before .before .before in
     let i = c .before .before .i4 .given .1 in
-    (start .pre .0, (in-state (start .pre .1 .0) (fits-as (start .pre .1 .0) i) .1, needs-yes _ BufferFull (rw i at (start .pre .1 .1))))
+    (start .pre .0, (in-state (start .pre .1 .0) (fits-as (start .pre .1 .0) i) .1, (needs-yes _ BufferFull (rw i at (start .pre .1 .1 .0)), start .pre .1 .1 .1)))
 
 enum-told : tie.Need-enum-told
 enum-told c = search needs
@@ -64,6 +65,21 @@ enum-told-2 c = search needs
 
 enum-told-3 : tie.Need-enum-told-3
 enum-told-3 c = search needs
+
+enum-known-i-6 : tie.Need-enum-known-i-6
+enum-known-i-6 c = search needs
+
+cmpx-requires : tie.Need-cmpx-requires
+cmpx-requires c κs =
+    let start = c .before .before .before in
+    let operands = fits-as (start .pre .1 .0) (c .before .i6 .given .1) in
+    (start .pre .0, (operands .0, omega (arith, operands .1, start .pre .1 .0 .few)))
+
+enum-told-4 : tie.Need-enum-told-4
+enum-told-4 c = search needs
+
+wfence-requires : tie.Need-wfence-requires
+wfence-requires c κs = search needs
 
 returns : tie.Need-returns
 unfolding changed
@@ -94,6 +110,13 @@ returns-8 : tie.Need-returns-8
 unfolding changed
 returns-8 c = rw (c .enum-told3 .given .1) (record { ok = c .before .before .pre .0 .ok; is = refl })
 
+returns-9 : tie.Need-returns-9
+returns-9 c = rw (c .before .before .i6 .given .1) (c .cmpx .ensures _)
+
+returns-10 : tie.Need-returns-10
+unfolding changed
+returns-10 c = rw (c .before .enum-told4 .given .1) (c .wfence .ensures)
+
 pub changed-spec : {M : Type 1} → statement M
 changed-spec =
     tie.close
@@ -112,6 +135,10 @@ changed-spec =
     xchg-requires
     enum-told-2
     enum-told-3
+    enum-known-i-6
+    cmpx-requires
+    enum-told-4
+    wfence-requires
     returns
     returns-2
     returns-3
@@ -119,4 +146,6 @@ changed-spec =
     returns-5
     returns-6
     returns-7
-    returns-8)
+    returns-8
+    returns-9
+    returns-10)

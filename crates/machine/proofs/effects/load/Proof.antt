@@ -1,6 +1,7 @@
 -- `machine::effects::load` meets its contract: what the own buffer and memory have of the variable goes to the register.
 use borrow.Author.Needs.{needs}
 use Rattle.rules.specs.Step.{changed}
+use Rattle.buffer.specs.Posts.{stores-held}
 use Rattle.state.proofs.PartLaws.{holds-as}
 use Rattle.machine.proofs.effects.load.Statement.{statement}
 use Rattle.machine.proofs.effects.load.Tie as tie
@@ -19,7 +20,11 @@ with-register-requires c κs = search needs
 
 returns : tie.Need-returns
 unfolding changed
-returns c = λ m. holds-as (c .with-register .ensures) (cc)
+returns c = λ m.
+    let seen = c .before .newest .ensures in
+    let memory = c .before .before .variable .ensures in
+    let stores = stores-held (c .before .before .before .buffer .ensures) in
+    holds-as (c .with-register .ensures) (rw (seen, memory, stores))
 
 pub load-spec : {M : Type 1} → statement M
 load-spec =

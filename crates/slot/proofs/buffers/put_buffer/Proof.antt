@@ -26,7 +26,7 @@ returns c =
     let start = c .before .before .before .before .before .before .before .before in
     let given = start .args in
     let full = c .before .before .before .put-bytes-arg3 .given .0 in
-    let pairs = laid-cons (given .table .now) (given .at) (given .t3 .len) (given .t3 .slots) (omega (arith, full, start .pre)) in
+    let pairs = laid-cons (given .table .now) (given .at) (given .t3 .count) (given .t3 .slots) (omega (arith, full, start .pre)) in
     record { is = c .before .before .put-bytes .ensures .is ∙ pairs; size = same-length c }
 
 pub put-buffer-spec : {M : Type 1} → statement M

@@ -1,0 +1,66 @@
+-- `buffer::flush::first_next_to` meets its contract. The invariant: what is left to search decides.
+use Prim.Native.Nat.{_-_}
+use native.Mathlib.Omega.{arith}
+use Rattle.buffer.specs.Places.{is-next-to}
+use Rattle.buffer.specs.Held.{number}
+use Rattle.buffer.proofs.ReadLaws.{Searched, search-starts, search-finds, search-goes-on, search-ends}
+use Rattle.buffer.proofs.flush.first_next_to.Statement.{statement}
+use Rattle.buffer.proofs.flush.first_next_to.Tie as tie
+
+abbrev Inv-loop : tie.InvT-loop
+Inv-loop v b n i₀ i = Searched (is-next-to v) b i
+
+abbrev μ-loop : tie.MeasureT-loop
+μ-loop v b n i₀ i = number b - i
+
+cast-n : tie.Need-cast-n Inv-loop μ-loop
+cast-n c = omega arith
+
+loop-holds : tie.Need-loop-holds Inv-loop μ-loop
+loop-holds c = search-starts _ (c .pre) _
+
+mul-byte : tie.Need-mul-byte Inv-loop μ-loop
+mul-byte c = omega arith
+
+element-copy-out-byte : tie.Need-element-copy-out-byte Inv-loop μ-loop
+element-copy-out-byte c = omega arith
+
+returns : tie.Need-returns Inv-loop μ-loop
+returns c =
+    let start = c .before .before .before .before in
+    let l = c .before .before .before .loop in
+    search-finds (start .args .t1) (start .pre) _ (l .i) (c .before .before .loop-test .taken) (c .if1 .taken) (l .inv)
+
+add-i : tie.Need-add-i Inv-loop μ-loop
+add-i c = omega arith
+
+loop-less : tie.Need-loop-less Inv-loop μ-loop
+loop-less c = omega arith
+
+loop-again : tie.Need-loop-again Inv-loop μ-loop
+loop-again c =
+    let start = c .before .before .before .before in
+    let l = c .before .before .before .loop in
+    search-goes-on (start .args .t1) (start .pre) _ (l .i) (c .before .before .loop-test .taken) (c .if1 .left) (l .inv)
+
+returns-2 : tie.Need-returns-2 Inv-loop μ-loop
+returns-2 c =
+    let start = c .before .before in
+    let l = c .before .loop in
+    search-ends (start .args .t1) (start .pre) _ (l .i) (c .loop-test .left) (l .inv)
+
+pub first-next-to-spec : {M : Type 1} → statement M
+first-next-to-spec =
+    tie.close
+    (tie.spec
+    Inv-loop
+    μ-loop
+    cast-n
+    loop-holds
+    mul-byte
+    element-copy-out-byte
+    returns
+    add-i
+    loop-less
+    loop-again
+    returns-2)
