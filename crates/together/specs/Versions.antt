@@ -1,7 +1,7 @@
 -- Request 7: a version 2 file which uses neither operation "has the same answers as the version 1 file with the same bytes behind the version": whatever is
--- lent, each promise allows the same answers, and the same bytes of lent memory, for the one file as for the other.
+-- lent, each promise allows the same answers, and the same bytes of lent memory, for the one file as for the other, be they accepted or refused.
 use mathlib.Core.Path.{_≡_, sym, ap, subst, _∙_}
-use mathlib.Core.Logic.{_↔_}
+use mathlib.Core.Logic.{_↔_, _⊎_, inl, inr}
 use mathlib.Core.List.{List}
 use Prim.Native.Nat.{ℕ}
 use lib.ListN.{length}
@@ -9,38 +9,29 @@ use Rattle.rules.specs.Limits.{first-version, second-version, length-size}
 use Rattle.rules.specs.Job.{Job, start}
 use Rattle.rules.specs.Step.{instruction-at, has-thread, has-variable, may-execute-of, may-flush-of, may, after, step}
 use Rattle.rules.specs.Goal.{goal}
-use Rattle.rules.specs.File.{byte, accepted, decode}
-use Rattle.rules.specs.Versions.{in-version, UsesNew, second-accepts, first-accepts}
+use Rattle.rules.specs.File.{byte, Decoded, accepted, refused, decode}
+use Rattle.rules.specs.Versions.{in-version, re-versioned, UsesNew, FirstBars, two-files, second-accepts, first-accepts}
 use Rattle.fences.specs.Meaning as fences
 use Rattle.replay.specs.Meaning as replay
 use Rattle.lent.specs.Meaning.{Lent}
 use Rattle.search.specs.Meaning as search
 
--- a pair of files that hold one job but for the version
-module _ (one two : List ℕ) (j : Job) (first : decode one ≡ accepted j) (second : decode two ≡ accepted (in-version second-version j)) where
-  pub same-search : (m : Lent) (ws : List ℕ) (m′ : Lent) → search.SearchPromise one m ws m′ ↔ search.SearchPromise two m ws m′
+-- what each promise says of a decoded file, it says of the same job, or the same refusal, in another version
+module _ (version : ℕ) where
+  search-alike : (d : Decoded) (m : Lent) (ws : List ℕ) (m′ : Lent) → search.SearchOf d m ws m′ ↔ search.SearchOf (re-versioned version d) m ws m′
   unfolding start step may after may-execute-of may-flush-of has-thread has-variable instruction-at goal
-  same-search m ws m′ = (
-    λ h. subst (λ d. search.SearchOf d m ws m′) (sym second) (subst (λ d. search.SearchOf d m ws m′) first h),
-    λ h. subst (λ d. search.SearchOf d m ws m′) (sym first) (subst (λ d. search.SearchOf d m ws m′) second h),
-  )
+  search-alike (accepted j) m ws m′ = (λ h. h, λ h. h)
+  search-alike (refused number offset) m ws m′ = (λ h. h, λ h. h)
 
-  pub same-replay : (schedule ws : List ℕ) → replay.ReplayPromise one schedule ws ↔ replay.ReplayPromise two schedule ws
+  replay-alike : (d : Decoded) (schedule ws : List ℕ) → replay.ReplayOf d schedule ws ↔ replay.ReplayOf (re-versioned version d) schedule ws
   unfolding start step may after may-execute-of may-flush-of has-thread has-variable instruction-at goal
-  same-replay schedule ws = (
-    λ h.
-        let r = subst (λ d. replay.ReplayOf d schedule ws) first h in
-        subst (λ d. replay.ReplayOf d schedule ws) (sym second) (record { replayed = r .replayed; means = r .means; answer = r .answer }),
-    λ h.
-        let r = subst (λ d. replay.ReplayOf d schedule ws) second h in
-        subst (λ d. replay.ReplayOf d schedule ws) (sym first) (record { replayed = r .replayed; means = r .means; answer = r .answer }),
-  )
+  replay-alike (accepted j) schedule ws =
+      (λ h. record { replayed = h .replayed; means = h .means; answer = h .answer }, λ h. record { replayed = h .replayed; means = h .means; answer = h .answer })
+  replay-alike (refused number offset) schedule ws = (λ h. h, λ h. h)
 
-  pub same-check : (ws : List ℕ) → fences.FencePromise one ws ↔ fences.FencePromise two ws
-  same-check ws = (
-    λ h. subst (λ d. fences.FenceOf d ws) (sym second) (subst (λ d. fences.FenceOf d ws) first h),
-    λ h. subst (λ d. fences.FenceOf d ws) (sym first) (subst (λ d. fences.FenceOf d ws) second h),
-  )
+  check-alike : (d : Decoded) (ws : List ℕ) → fences.FenceOf d ws ↔ fences.FenceOf (re-versioned version d) ws
+  check-alike (accepted j) ws = (λ h. h, λ h. h)
+  check-alike (refused number offset) ws = (λ h. h, λ h. h)
 
 -- the three promises allow the same for the one file as for the other
 pub record SameAnswers (one two : List ℕ) : Type 1 where
@@ -48,20 +39,34 @@ pub record SameAnswers (one two : List ℕ) : Type 1 where
   pub replay : (schedule ws : List ℕ) → replay.ReplayPromise one schedule ws ↔ replay.ReplayPromise two schedule ws
   pub check : (ws : List ℕ) → fences.FencePromise one ws ↔ fences.FencePromise two ws
 
-alike-answers : (one two : List ℕ) (j : Job) → decode one ≡ accepted j → decode two ≡ accepted (in-version second-version j) → SameAnswers one two
-alike-answers one two j first second =
-    record { search = same-search one two j first second; replay = same-replay one two j first second; check = same-check one two j first second }
+pub same-answers : (one two : List ℕ) → decode two ≡ re-versioned second-version (decode one) → SameAnswers one two
+same-answers one two e =
+    record {
+      search = λ m ws m′. subst (λ d. search.SearchPromise one m ws m′ ↔ search.SearchOf d m ws m′) (sym e) (search-alike second-version (decode one) m ws m′);
+      replay = λ schedule ws.
+          subst (λ d. replay.ReplayPromise one schedule ws ↔ replay.ReplayOf d schedule ws) (sym e) (replay-alike second-version (decode one) schedule ws);
+      check = λ ws. subst (λ d. fences.FencePromise one ws ↔ fences.FenceOf d ws) (sym e) (check-alike second-version (decode one) ws);
+    }
 
 -- Two files of the same bytes but for the version, which is 1 in the one and 2 in the other.
 module _ (one two : List ℕ) (long : length one ≡ length two) (alike : (at : ℕ) → ¬ (at ≡ length-size) → byte one at ≡ byte two at)
     (is-first : byte one length-size ≡ first-version) (is-second : byte two length-size ≡ second-version) where
+  -- "Nothing else of version 1 moves": the answers are the same, refusals and their offsets too, unless the first file is refused at operation 10 or 11
+  pub every-pair : SameAnswers one two ⊎ FirstBars one two
+  every-pair = which (two-files one two long alike is-first is-second)
+    where
+      which : (decode two ≡ re-versioned second-version (decode one)) ⊎ FirstBars one two → SameAnswers one two ⊎ FirstBars one two
+      which (inl e) = inl (same-answers one two e)
+      which (inr bars) = inr bars
+
   -- "a version 2 file which uses neither operation means, but for the version field, the same job and has the same answers"
   pub neither-used : (j : Job) → decode two ≡ accepted j → ¬ (UsesNew j)
       → ((i : Job) × (decode one ≡ accepted i) × (j ≡ in-version second-version i)) × SameAnswers one two
   neither-used j second old =
       let r = first-accepts one two long alike is-first is-second j second old in
-      (r, alike-answers one two (r .0) (r .1) (second ∙ ap accepted (r .2)))
+      (r, same-answers one two (second ∙ ap accepted (r .2) ∙ ap (re-versioned second-version) (sym (r .1))))
 
   -- and a version 1 file keeps its answers when it says version 2
   pub says-second : (j : Job) → decode one ≡ accepted j → SameAnswers one two
-  says-second j first = alike-answers one two j first (second-accepts one two long alike is-first is-second j first)
+  says-second j first =
+      same-answers one two (second-accepts one two long alike is-first is-second j first ∙ ap (re-versioned second-version) (sym first))

@@ -1,17 +1,17 @@
--- Request 7: a job has one verdict, in whichever of the two versions its file is written (`together/specs/Versions` for the three jobs).
+-- Request 7: a job has one verdict, in whichever of the two versions its file is written (`together/specs/Versions` for the three others), be it accepted or refused.
 use mathlib.Core.Path.{_≡_, refl, sym, ap, subst, _∙_}
 use mathlib.Core.Logic.{_↔_}
 use mathlib.Core.List.{List}
 use Prim.Native.Nat.{ℕ}
 use Rattle.rules.specs.Limits.{second-version}
 use Rattle.rules.specs.Job.{Job}
-use Rattle.rules.specs.File.{accepted, decode, job-of}
+use Rattle.rules.specs.File.{Decoded, accepted, refused, decode, job-of}
 use Rattle.rules.specs.Accepted.{job-of-accepted}
-use Rattle.rules.specs.Versions.{in-version}
+use Rattle.rules.specs.Versions.{in-version, re-versioned, not-both}
 use Rattle.lent.specs.Meaning.{Lent}
 use Rattle.search.specs.Meaning as search
 use Rattle.fences.specs.Meaning as fences
-use Rattle.together.specs.Versions.{same-search, same-check}
+use Rattle.together.specs.Versions.{same-answers}
 use Rattle.verdict.specs.Meaning.{ScAsks, MayRelease, VerdictPromise}
 use Rattle.verdict.specs.declared.Verdict.{Verdict}
 
@@ -28,21 +28,39 @@ released-alike one two i j first second model flag found checked h =
       under-sc = subst (λ k. ScAsks k checked) (sym (job-of-accepted two j second)) asks-j;
     }
 
-module _ (one two : List ℕ) (j : Job) (first : decode one ≡ accepted j) (second : decode two ≡ accepted (in-version second-version j)) where
+-- a file that holds no job releases nothing
+never-released : (bytes : List ℕ) (number offset : ℕ) → decode bytes ≡ refused number offset
+    → (found checked : List ℕ) {A : Type 0} → MayRelease bytes found checked → A
+never-released bytes number offset e found checked h = not-both (sym e ∙ h .decoded)
+
+module _ (one two : List ℕ) (alike : decode two ≡ re-versioned second-version (decode one)) where
+  released-both : (found checked : List ℕ) → MayRelease one found checked ↔ MayRelease two found checked
+  released-both found checked = which (decode one) refl
+    where
+      which : (d : Decoded) → decode one ≡ d → MayRelease one found checked ↔ MayRelease two found checked
+      which (accepted j) e =
+          let second : decode two ≡ accepted (in-version second-version j) = alike ∙ ap (re-versioned second-version) e in (
+            released-alike one two j (in-version second-version j) e second refl refl found checked,
+            released-alike two one (in-version second-version j) j second e refl refl found checked,
+          )
+      which (refused number offset) e =
+          let second : decode two ≡ refused number offset = alike ∙ ap (re-versioned second-version) e in
+          (λ h. never-released one number offset e found checked h, λ h. never-released two number offset second found checked h)
+
   pub same-verdict : (m : Lent) (v : Verdict) (m′ : Lent) → VerdictPromise one m v m′ ↔ VerdictPromise two m v m′
   same-verdict m v m′ =
-      let there = released-alike one two j (in-version second-version j) first second refl refl _ _ in
-      let back = released-alike two one (in-version second-version j) j second first refl refl _ _ in (
+      let same = same-answers one two alike in
+      let both = released-both _ _ in (
         λ h.
             record {
-              searched = same-search one two j first second m _ m′ .0 (h .searched);
-              checked = same-check one two j first second _ .0 (h .checked);
-              releases = (λ r. there (h .releases .0 r), λ k. h .releases .1 (back k));
+              searched = same .search m _ m′ .0 (h .searched);
+              checked = same .check _ .0 (h .checked);
+              releases = (λ r. both .0 (h .releases .0 r), λ k. h .releases .1 (both .1 k));
             },
         λ h.
             record {
-              searched = same-search one two j first second m _ m′ .1 (h .searched);
-              checked = same-check one two j first second _ .1 (h .checked);
-              releases = (λ r. back (h .releases .0 r), λ k. h .releases .1 (there k));
+              searched = same .search m _ m′ .1 (h .searched);
+              checked = same .check _ .1 (h .checked);
+              releases = (λ r. both .1 (h .releases .0 r), λ k. h .releases .1 (both .0 k));
             },
       )
