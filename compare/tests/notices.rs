@@ -934,7 +934,7 @@ fn a_number_above_35_with_the_reason_of_its_low_bits() {
 #[test]
 fn a_full_buffer_where_something_else_is_the_reason() {
     for model in [Model::Tso, Model::Pso] {
-        // FENCE or XCHG and the end at a full buffer.
+        // FENCE, XCHG or CMPX and the end at a full buffer.
         for right in [4, 2] {
             notices_reason(|stuck| (stuck.is_by(model, right) && stuck.is_full()).then_some(3));
         }

@@ -325,7 +325,7 @@ pub fn at_the_limit() -> Vec<u8> {
     )
 }
 
-/// The most instructions, of all nine operations, with operands at their last values.
+/// The most instructions, of all nine operations of version 1, with operands at their last values.
 fn long_program(thread: u8) -> Program {
     (0..FURTHEST_PLACE)
         .map(|place| limit_instruction(thread + place))

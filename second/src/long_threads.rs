@@ -128,7 +128,7 @@ pub fn of_fence_check(job: &[u8]) -> Vec<&'static str> {
     }
 }
 
-/// The same job with ADD in place of each FENCE and XCHG above place 32.
+/// The same job with ADD in place of each FENCE, XCHG and CMPX above place 32.
 fn without_high_barriers(mut job: Job) -> Job {
     for program in job.programs.iter_mut() {
         for instruction in program.iter_mut().skip(MOST_BEFORE + 1) {
