@@ -15,7 +15,7 @@ fn main() {
     link(&folder, "handshake");
     if env::var_os("CARGO_FEATURE_BEFORE").is_some() {
         let before = folder_of(BEFORE_VARIABLE).unwrap_or_else(|| {
-            stop(&format!("the feature `before` measures the archive of an earlier commit, too: set {BEFORE_VARIABLE} to its folder"))
+            stop(&format!("the feature `before` takes the archive of an earlier commit, too: set {BEFORE_VARIABLE} to its folder"))
         });
         let archive = archive_in(&before, BEFORE_VARIABLE);
         link(&renamed(&archive), "before");
@@ -48,15 +48,18 @@ fn link(folder: &Path, name: &str) {
     println!("cargo:rustc-link-lib=static={name}");
 }
 
-/// The folder of a copy whose search has another name, so that both archives can be linked.
+/// The folder of a copy whose functions have other names, so that both archives can be linked.
 fn renamed(archive: &Path) -> PathBuf {
     let made = PathBuf::from(env::var_os("OUT_DIR").expect("cargo sets OUT_DIR")).join("before");
     fs::create_dir_all(&made).unwrap_or_else(|error| stop(&format!("{}: {error}", made.display())));
-    let status = Command::new("objcopy")
-        .arg("--keep-global-symbol=before_search")
-        .arg("--redefine-sym=handshake_search=before_search")
-        .args([archive, &made.join("libbefore.a")])
-        .status();
+    let mut objcopy = Command::new("objcopy");
+    for function in ["search", "replay", "fences"] {
+        objcopy.arg(format!("--keep-global-symbol=before_{function}"));
+        objcopy.arg(format!(
+            "--redefine-sym=handshake_{function}=before_{function}"
+        ));
+    }
+    let status = objcopy.args([archive, &made.join("libbefore.a")]).status();
     match status {
         Ok(status) if status.success() => made,
         Ok(status) => stop(&format!("objcopy {}: {status}", archive.display())),

@@ -9,10 +9,10 @@
  * answer is never NULL: it points to four uint64_t, 32 bytes in a row, aligned for uint64_t (to 8 bytes on x86-64), and every call sets
  * all four. A refusal is 0, number, offset, 0, and then no other buffer was written.
  * The numbers, with the offset in the job, counted from 0 (docs/JOBS.md has the fields):
- *   1  fewer than 3 bytes, more than 1,109, or length wrong: 0
- *   2  version neither 1 nor 2: 2
+ *   1  fewer than 3 bytes, more than 1,109 (where the version byte is 3: 1,389), or length wrong: 0
+ *   2  version none of 1, 2 and 3: 2
  *   3  model, C, T or V out of range: that byte
- *   4  n above 64: that n; an instruction with a bad operation (10 and 11 are of version 2 only), operand or zero byte: its first byte
+ *   4  n above 64: that n; an instruction with a bad operation (10 and 11 are none in version 1), operand or zero byte: its first byte
  *   5  flag not 0 or 1, or K, the number of clauses, not 1 to 16: that byte; a bad clause: its first byte
  *   6  a field, instruction or clause isn't wholly there: where it begins; bytes left over: the first of them
  *   7  search only, no slot (N is 0): 0
@@ -27,9 +27,10 @@
 extern "C" {
 #endif
 
-/* Searches the job with N slots: the smallest of table_length / 96, links_length, schedule_length and 65536.
- * A slot has 96 bytes: 4 places, 16 registers thread by thread, 8 variables, then for each thread a count and eight pairs (variable, value),
- * unused ones 0. Under PSO a WFENCE parts a thread's stores into groups: the variable byte has 16 times the group's number added (the oldest
+/* Searches the job with N slots: the smallest of table_length / 152, links_length, schedule_length and 65536.
+ * A slot has 152 bytes, whatever the job's version: 4 places, 16 registers thread by thread and 8 variables of two bytes each, then for each
+ * thread 25: a count, and eight entries of three bytes (variable, and a value of two), unused ones 0. Values have their high byte first; in
+ * versions 1 and 2 it is 0. Under PSO a WFENCE parts a thread's stores into groups: the variable byte has 16 times the group's number added (the oldest
  * group there is 0), and the count has 128 added while a WFENCE stands after the newest store.
  * answer: 0, number, offset, 0: refused
  *         1, d, states, 0:      reachable in d steps, which are the schedule's first d bytes

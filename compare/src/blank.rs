@@ -1,5 +1,7 @@
 //! Blank goals among refused jobs: which they are, and which have a fault that is judged before.
 
+use crate::versions::VERSION_AT;
+use second::job::{item, width};
 use second::listed::settled;
 use second::{decode, Refusal};
 
@@ -34,14 +36,15 @@ pub fn met(job: &[u8], refusal: Refusal) -> Option<Blank> {
 /// Whether K is what comes next: with one clause that any job may have, the file is then whole.
 /// A bad clause of kind 0 is refused by 5 at a zero byte, too, and this tells it apart.
 fn k_stands_behind(front: &[u8]) -> bool {
-    let one_clause = [1, 3, 0, 0, 0];
-    decode(&settled([front, &one_clause].concat())).is_ok()
+    let clause = item(3, 0, 0, 0).in_file(width(front[VERSION_AT]));
+    decode(&settled([front, &[1], &clause].concat())).is_ok()
 }
 
 #[cfg(test)]
 mod tests {
     use super::*;
     use second::listed::{with_byte, P1};
+    use second::version_three_jobs::in_three;
 
     fn blank(job: Vec<u8>) -> Option<Blank> {
         let job = settled(job);
@@ -93,5 +96,26 @@ mod tests {
         assert_eq!(blank(with_goal(&[0, 17])), None);
         // An earlier fault in front of a blank goal.
         assert_eq!(blank(with_byte(&with_goal(&[0, 0]), 10, 10)), None);
+    }
+
+    #[test]
+    fn blank_goals_where_items_are_longer() {
+        // Flag and K stand at 33 and 34.
+        let p1 = in_three(&P1);
+        let with_goal = |goal: &[u8]| [&p1[..33], goal].concat();
+        for (goal, bytes_behind) in [(&[1, 0][..], false), (&[1, 0, 1, 0, 0, 0, 0], true)] {
+            let met = Blank::Goal {
+                buffers_empty: true,
+                bytes_behind,
+            };
+            assert_eq!(blank(with_goal(goal)), Some(met));
+        }
+        assert_eq!(blank(with_goal(&[2, 0])), Some(Blank::BehindBadFlag));
+        assert_eq!(blank(with_goal(&[0])), Some(Blank::CutBeforeK));
+        // Half an initial value, half an instruction, and half a clause.
+        for count in [10, 14, 37] {
+            assert_eq!(blank(p1[..count].to_vec()), None);
+        }
+        assert_eq!(blank(with_byte(&p1, 35, 0)), None);
     }
 }

@@ -53,7 +53,10 @@ pub fn hold_versions(
     difference(one, two, ["version 1 has", "version 2 has"])
 }
 
-fn difference(here: &Call, there: &Call, names: [&str; 2]) -> Option<String> {
+/// Whose calls they are, for a person.
+pub type Names = [&'static str; 2];
+
+fn difference(here: &Call, there: &Call, names: Names) -> Option<String> {
     let parts = [
         ("answer", here.answer.difference(&there.answer, names)),
         ("job", here.job.difference(&there.job, names)),
@@ -61,6 +64,16 @@ fn difference(here: &Call, there: &Call, names: [&str; 2]) -> Option<String> {
         ("links", here.links.difference(&there.links, names)),
         ("schedule", here.schedule.difference(&there.schedule, names)),
     ];
+    described(here, there, names, parts)
+}
+
+/// The calls, and what differs in each part of them; nothing if nothing does.
+pub fn described(
+    here: &Call,
+    there: &Call,
+    names: Names,
+    parts: [(&str, Option<String>); 5],
+) -> Option<String> {
     let differing: String = parts
         .into_iter()
         .filter_map(|(part, text)| text.map(|text| format!("  {part}: {text}\n")))
@@ -68,7 +81,7 @@ fn difference(here: &Call, there: &Call, names: [&str; 2]) -> Option<String> {
     (!differing.is_empty()).then(|| description(here, there, names) + &differing)
 }
 
-fn description(here: &Call, there: &Call, [name, other_name]: [&str; 2]) -> String {
+fn description(here: &Call, there: &Call, [name, other_name]: Names) -> String {
     let what = match there.kind {
         Kind::Search => format!(
             "search with {} table bytes, {} links, {} schedule bytes",

@@ -1,14 +1,18 @@
 //! Jobs to compare on: the listed ones first, then random ones of many shapes, sound and damaged.
 
+use crate::lengths;
 use crate::walk::walk;
-use second::job::MOST_INSTRUCTIONS;
+use second::job::{item, longest_file, width, Item, Value, Width, MOST_INSTRUCTIONS};
 use second::listed::{
-    at_the_limit, bench_list, file, in_version, settled, with_byte, Memory, Program, AT_THE_START,
-    FURTHEST_PLACE, P1, PSO, SC, TSO,
+    at_the_limit, bench_list, file, in_version, settled, with_byte, Memory, Parts, Program,
+    AT_THE_START, FURTHEST_PLACE, P1, PSO, SC, TSO,
 };
 use second::long_threads::MOST_BEFORE;
 use second::machine::State;
 use second::random::{damaged_job, random_bytes, some_version, sound_job, sound_job_of, Random};
+use second::version_three_jobs::{
+    at_the_limit_of_three, classics_of_three, in_three, of_length, raised,
+};
 use second::version_two::instructions_at;
 use second::version_two_jobs::{at_the_limit_of_two, classics_of_two, compare_exchange, WFENCE};
 use second::{decode, Job};
@@ -17,22 +21,29 @@ use std::ops::Range;
 /// The job of a run that has more states than a search ever counts.
 pub const COUNTER: u64 = 0;
 
+thread_local! {
+    static LISTED: Vec<Vec<u8>> = listed();
+}
+
 /// Job `number` of a run: every run begins with the listed jobs.
 pub fn job(random: &mut Random, number: u64) -> Vec<u8> {
-    let mut listed = listed();
-    if number < listed.len() as u64 {
-        return listed.swap_remove(number as usize);
-    }
+    let listed = LISTED.with(|listed| listed.get(number as usize).cloned());
+    listed.unwrap_or_else(|| random_job(random))
+}
+
+/// One of many shapes, sound or damaged.
+pub fn random_job(random: &mut Random) -> Vec<u8> {
     match random.below(100) {
         0..=5 => random_bytes(random),
         6..=7 => with_misused_operation(random),
-        8..=23 => damaged_job(random),
+        8..=9 => with_wide_fault(random),
+        10..=23 => damaged_job(random),
         24..=27 => {
-            let job = sound_of_any_shape(random, listed);
+            let job = sound_of_any_shape(random);
             with_blank_goal(random, job)
         }
         28..=31 => {
-            let job = listed.swap_remove(random.below(listed.len()));
+            let job = one_of_the_listed(random, |_| true);
             damaged(random, job)
         }
         32..=36 => {
@@ -62,20 +73,24 @@ pub fn job(random: &mut Random, number: u64) -> Vec<u8> {
     }
 }
 
-fn sound_of_any_shape(random: &mut Random, mut listed: Vec<Vec<u8>>) -> Vec<u8> {
+fn sound_of_any_shape(random: &mut Random) -> Vec<u8> {
     match random.below(5) {
         0 => sound_job(random),
         1 => handshake(random),
         2 => full_size(random),
         3 => parked(random),
-        _ => {
-            listed.retain(|job| decode(job).is_ok());
-            listed.swap_remove(random.below(listed.len()))
-        }
+        _ => one_of_the_listed(random, |job| decode(job).is_ok()),
     }
 }
 
-/// The counter, the bench list and its refused inputs, and a job at every limit; then those that version 2 has more.
+fn one_of_the_listed(random: &mut Random, wanted: fn(&[u8]) -> bool) -> Vec<u8> {
+    LISTED.with(|listed| {
+        let wanted: Vec<&Vec<u8>> = listed.iter().filter(|job| wanted(job)).collect();
+        random.pick(&wanted).clone()
+    })
+}
+
+/// The counter, the bench list and its refused inputs, and a job at every limit; then those that versions 2 and 3 have more.
 fn listed() -> Vec<Vec<u8>> {
     let mut jobs = vec![counter()];
     jobs.extend(bench_list());
@@ -84,6 +99,7 @@ fn listed() -> Vec<Vec<u8>> {
     jobs.extend([vec![], vec![0, 1, 0], vec![0, 1, 1], with_byte(&P1, 10, 10)]);
     jobs.extend([longest, too_long]);
     jobs.extend(listed_of_two());
+    jobs.extend(listed_of_three());
     jobs
 }
 
@@ -98,6 +114,27 @@ fn listed_of_two() -> Vec<Vec<u8>> {
     jobs.push(p1);
     jobs.extend(classics_of_two([PSO, 3]));
     jobs.push(at_the_limit_of_two());
+    jobs
+}
+
+/// P1 as it stands, with its values in the high bytes, and under the wrong number; jobs that hang on both bytes of a value, one at every limit, and files about both limits of length.
+fn listed_of_three() -> Vec<Vec<u8>> {
+    let p1 = in_three(&P1);
+    let mut jobs = vec![
+        vec![0, 1, 3],
+        with_byte(&p1, 12, 11),
+        in_version(&p1, 1),
+        in_version(&p1, 2),
+        in_version(&P1, 3),
+        raised(&P1),
+    ];
+    jobs.push(p1);
+    jobs.extend(classics_of_three([PSO, 3]));
+    jobs.push(at_the_limit_of_three());
+    for version in [0, 1, 2, 3, 4, 255] {
+        let lengths = lengths::edges().into_iter();
+        jobs.extend(lengths.map(|length| of_length(version, length)));
+    }
     jobs
 }
 
@@ -128,7 +165,8 @@ pub fn handshake(random: &mut Random) -> Vec<u8> {
         .map(|_| handshake_program(random, version, variables, longest))
         .collect();
     let initial: Vec<u8> = (0..variables).map(|_| random.below(2) as u8).collect();
-    let job = with_any_goal(version, some_memory(random), &initial, &programs);
+    let memory = some_memory(random);
+    let job = with_any_goal(random, version, memory, &initial, &programs);
     with_near_goal(random, job)
 }
 
@@ -250,7 +288,8 @@ fn sequencer(random: &mut Random) -> Vec<u8> {
         programs.insert(random.below(2), short);
     }
     let initial: Vec<u8> = (0..variables).map(|_| random.below(2) as u8).collect();
-    let job = with_any_goal(version, some_memory(random), &initial, &programs);
+    let memory = some_memory(random);
+    let job = with_any_goal(random, version, memory, &initial, &programs);
     with_far_goal(random, job, 2 * MOST_INSTRUCTIONS)
 }
 
@@ -341,7 +380,8 @@ fn parked(random: &mut Random) -> Vec<u8> {
         .map(|_| parked_program(random, version, variables, longest))
         .collect();
     let initial: Vec<u8> = (0..variables).map(|_| random.below(2) as u8).collect();
-    let job = with_any_goal(version, some_memory(random), &initial, &programs);
+    let memory = some_memory(random);
+    let job = with_any_goal(random, version, memory, &initial, &programs);
     with_far_goal(random, job, FAR)
 }
 
@@ -417,7 +457,8 @@ fn deep_buffer(random: &mut Random) -> Vec<u8> {
     const FLAG: u8 = 0;
     let version = some_version(random);
     let variables = random.between(2, 8);
-    let before = random.below(8);
+    // The later it stands, the fewer other jobs have two states that differ there alone.
+    let before = random.pick(&[0, 1, 2, 3, 4, 5, 5, 6, 6, 6, 7, 7, 7]);
     let behind = random.below(8 - before);
     let capacity = random.between(before + 1 + behind, 8) as u8;
     let mut storing = plain_stores(random, version, before, variables);
@@ -438,7 +479,7 @@ fn deep_buffer(random: &mut Random) -> Vec<u8> {
     // The exchange gives the register its 0 back.
     let raising = vec![[1, 0, 0, 1], [7, 0, FLAG, 0]];
     let mut programs = vec![Program::new(); 4];
-    let thread = random.below(4);
+    let thread = random.pick(&[0, 1, 2, 3, 3]);
     programs[(thread + random.between(1, 3)) % 4] = raising;
     programs[thread] = storing;
     // Under TSO a WFENCE leaves nothing that two states could differ in.
@@ -448,7 +489,7 @@ fn deep_buffer(random: &mut Random) -> Vec<u8> {
         random.pick(&[TSO, PSO])
     };
     let memory = [model, capacity];
-    let job = with_any_goal(version, memory, &vec![0; variables], &programs);
+    let job = with_any_goal(random, version, memory, &vec![0; variables], &programs);
     with_far_goal(random, job, FAR)
 }
 
@@ -489,7 +530,7 @@ fn crowded(random: &mut Random) -> Vec<u8> {
         programs[random.below(threads)] = crowding_program(random, version, capacity, variables);
     }
     let memory = [random.pick(&[TSO, PSO]), capacity as u8];
-    let job = with_any_goal(version, memory, &vec![0; variables], &programs);
+    let job = with_any_goal(random, version, memory, &vec![0; variables], &programs);
     with_far_goal(random, job, FAR)
 }
 
@@ -562,7 +603,7 @@ fn message(random: &mut Random) -> Vec<u8> {
     };
     let goal = [[1, 1, 0, 2], [2, 1, 0, 1], [2, 1, 1, 0]];
     let job = file(memory, &vec![0; count], &[writer, reader], 0, &goal);
-    in_version(&job, version)
+    of_version(random, version, &job)
 }
 
 /// Four threads of the most instructions, which is all that a file holds.
@@ -570,7 +611,8 @@ fn full_size(random: &mut Random) -> Vec<u8> {
     let version = some_version(random);
     let programs: Vec<Program> = (0..4).map(|_| full_program(random, version)).collect();
     let initial: Vec<u8> = (0..8).map(|_| random.byte()).collect();
-    let job = with_any_goal(version, some_memory(random), &initial, &programs);
+    let memory = some_memory(random);
+    let job = with_any_goal(random, version, memory, &initial, &programs);
     with_far_goal(random, job, FAR)
 }
 
@@ -584,12 +626,88 @@ fn full_program(random: &mut Random, version: u8) -> Program {
     with_ends(program)
 }
 
+// ---- values: others in place of the small ones that all shapes are drawn with ----
+
+/// In place of 0, 1 and 2, where values have one byte: mostly themselves, and such that sums wrap.
+const NARROW: [[Value; 3]; 6] = [
+    [0, 1, 2],
+    [0, 1, 2],
+    [0, 1, 2],
+    [0, 1, 255],
+    [255, 1, 0],
+    [0, 128, 255],
+];
+
+/// The same where they have two.
+const WIDE: [[Value; 3]; 12] = [
+    [0, 1, 2],
+    // The high byte alone tells them apart, or the low one alone, or they have the same two bytes.
+    [0, 256, 512],
+    [1, 257, 513],
+    [256, 257, 258],
+    [0, 256, 257],
+    [0, 1, 256],
+    [1, 256, 257],
+    // Sums carry, or wrap.
+    [0, 255, 256],
+    [255, 1, 256],
+    [0, 128, 65_408],
+    [0, 1, 65_535],
+    [65_535, 1, 0],
+];
+
+/// Those about which a byte is full or empty, here and there in place of any other.
+const NARROW_EDGES: [Value; 4] = [127, 128, 254, 255];
+const WIDE_EDGES: [Value; 6] = [255, 256, 32_768, 65_280, 65_534, 65_535];
+
+/// The job of version 1 in this version, with other values in place of the small ones, the same everywhere, and any in place of the rest.
+fn of_version(random: &mut Random, version: u8, job: &[u8]) -> Vec<u8> {
+    let width = width(version);
+    let (in_place, edges): (&[[Value; 3]], &[Value]) = match width.bytes() {
+        1 => (&NARROW, &NARROW_EDGES),
+        _ => (&WIDE, &WIDE_EDGES),
+    };
+    let in_place = random.pick(in_place);
+    let mut parts = Parts::of(job);
+    parts.version = version;
+    let instructions = parts.programs.iter_mut().flatten();
+    let instructions = instructions.filter(|instruction| holds_value(instruction));
+    let clauses = parts.clauses.iter_mut();
+    let clauses = clauses.filter(|clause| is_about_value(clause));
+    let values = instructions.chain(clauses).map(|item| &mut item.k);
+    for value in values.chain(&mut parts.initial) {
+        let any = (random.word() as u32 % width.values()) as Value;
+        let small = in_place.get(usize::from(*value)).copied();
+        *value = match random.below(40) {
+            0 => random.pick(edges),
+            _ => small.unwrap_or(any),
+        };
+    }
+    parts.file()
+}
+
+/// SET, ADD, STOREK, JEQ and CMPX; of the others k is 0.
+fn holds_value(instruction: &Item) -> bool {
+    matches!(instruction.first, 1 | 2 | 5 | 8 | 10)
+}
+
+/// All clauses but those of a place.
+fn is_about_value(clause: &Item) -> bool {
+    clause.first != 1
+}
+
 // ---- goals ----
 
 /// Without a goal a file is refused and can't be walked, so this one stands in until another takes its place.
-fn with_any_goal(version: u8, memory: Memory, initial: &[u8], programs: &[Program]) -> Vec<u8> {
+fn with_any_goal(
+    random: &mut Random,
+    version: u8,
+    memory: Memory,
+    initial: &[u8],
+    programs: &[Program],
+) -> Vec<u8> {
     let job = file(memory, initial, programs, 0, &[AT_THE_START]);
-    in_version(&job, version)
+    of_version(random, version, &job)
 }
 
 /// One or two facts about a state that a walk has been at.
@@ -611,7 +729,7 @@ fn with_far_goal(random: &mut Random, job: Vec<u8>, most_steps: usize) -> Vec<u8
     let more = random.between(0, 12);
     with_goal_after(random, job, most_steps, |random, state| {
         let mut facts = facts(state);
-        let mut clauses: Vec<[u8; 4]> = facts.drain(..state.threads.len()).collect();
+        let mut clauses: Vec<Item> = facts.drain(..state.threads.len()).collect();
         while clauses.len() < 16.min(state.threads.len() + more) && !facts.is_empty() {
             clauses.push(facts.swap_remove(random.below(facts.len())));
         }
@@ -624,47 +742,61 @@ fn with_goal_after(
     random: &mut Random,
     job: Vec<u8>,
     most_steps: usize,
-    clauses: impl Fn(&mut Random, &State) -> Vec<[u8; 4]>,
+    clauses: impl Fn(&mut Random, &State) -> Vec<Item>,
 ) -> Vec<u8> {
     let decoded = decode(&job).expect("only a sound job gets another goal");
     let steps = random.between(2, most_steps);
     let (_, state) = walk(random, &decoded, steps);
     let empty = state.threads.iter().all(|thread| thread.pending() == 0);
-    let flag = u8::from(empty && random.percent(60));
-    let mut clauses = clauses(random, &state);
+    let mut parts = Parts::of(&job);
+    parts.flag = u8::from(empty && random.percent(60));
+    parts.clauses = clauses(random, &state);
     if random.percent(20) {
-        // A value that is seldom there: most such goals are never reached.
-        let value = random.pick(&[3, 4, 128, 255]);
-        if let Some(clause) = clauses.iter_mut().find(|clause| clause[0] != 1) {
-            clause[3] = value;
+        let mut clauses = parts.clauses.iter_mut();
+        if let Some(clause) = clauses.find(|clause| is_about_value(clause)) {
+            clause.k = seldom_there(random, decoded.width(), clause.k);
         }
     }
-    let front = &job[..goal_offset(&decoded)];
-    settled([front, &[flag, clauses.len() as u8], &clauses.concat()].concat())
+    parts.file()
+}
+
+/// Most goals with such a value are never reached.
+fn seldom_there(random: &mut Random, width: Width, held: Value) -> Value {
+    match width.bytes() {
+        1 => random.pick(&[3, 4, 128, 255]),
+        // Mostly one that is like what is there, but for a byte or for the order of both.
+        _ => random.pick(&[
+            3,
+            65_535,
+            held ^ 0x0001,
+            held ^ 0x0080,
+            held ^ 0x0100,
+            held ^ 0x8000,
+            held.swap_bytes(),
+        ]),
+    }
 }
 
 /// All clauses that are true of the state, the places of all threads first.
-fn facts(state: &State) -> Vec<[u8; 4]> {
+fn facts(state: &State) -> Vec<Item> {
     let threads = || (0u8..).zip(&state.threads);
-    let places = threads().map(|(thread, own)| [1, thread, 0, own.place as u8]);
+    let places = threads().map(|(thread, own)| item(1, thread, 0, own.place as Value));
     let registers = threads().flat_map(|(thread, own)| {
         (0u8..)
             .zip(own.registers)
-            .map(move |(register, value)| [2, thread, register, value])
+            .map(move |(register, value)| item(2, thread, register, value))
     });
     let memory = (0u8..).zip(&state.memory);
-    let memory = memory.map(|(variable, &value)| [3, variable, 0, value]);
+    let memory = memory.map(|(variable, &value)| item(3, variable, 0, value));
     places.chain(registers).chain(memory).collect()
 }
 
 /// Where the goal's flag stands in an accepted file.
 fn goal_offset(job: &Job) -> usize {
-    let programs: usize = job
-        .programs
-        .iter()
-        .map(|program| 1 + 4 * program.len())
-        .sum();
-    7 + job.initial.len() + programs
+    let width = job.width();
+    let programs = job.programs.iter();
+    let programs = programs.map(|program| 1 + width.item_bytes() * program.len());
+    7 + width.bytes() * job.initial.len() + programs.sum::<usize>()
 }
 
 /// The sound job with K = 0, the clauses taken away or left behind; now and then another fault shows which one wins.
@@ -686,23 +818,87 @@ fn with_blank_goal(random: &mut Random, mut job: Vec<u8>) -> Vec<u8> {
 
 // ---- damage ----
 
-/// A job of version 2 that says another version, or has a CMPX or WFENCE with an operand about the edge of its range.
+/// A job of version 2 or 3 that says another version, or has a CMPX or WFENCE with an operand about the edge of its range.
 fn with_misused_operation(random: &mut Random) -> Vec<u8> {
-    let mut job = sound_job_of(random, 2);
+    let version = random.pick(&[2, 3]);
+    let mut job = sound_job_of(random, version);
     let variables = job[6];
+    let last_byte = width(version).item_bytes() - 1;
     // CMPX's register and variable, and any byte of WFENCE.
     let (operation, operand, about_its_edge) = match random.below(6) {
         0 | 1 => (10, 1, [3, 4, 4, 255]),
         2 | 3 => (10, 2, [variables - 1, variables, variables, 255]),
-        _ => (11, random.between(1, 3), [1, 1, 128, 255]),
+        _ => (11, random.between(1, last_byte), [1, 1, 128, 255]),
     };
     let mut places = instructions_at(&job);
     places.retain(|&at| job[at] == operation);
     if places.is_empty() || random.percent(30) {
-        return in_version(&job, random.pick(&[1, 1, 0, 4, 255]));
+        return in_version(&job, random.pick(&[1, 1, 5 - version, 0, 4, 255]));
     }
     job[random.pick(&places) + operand] = random.pick(&about_its_edge);
     job
+}
+
+/// A job of version 3 with a fault that a value of two bytes is needed for, or a file about as long as its version byte lets it be.
+fn with_wide_fault(random: &mut Random) -> Vec<u8> {
+    let job = sound_job_of(random, 3);
+    let mut parts = Parts::of(&job);
+    match random.below(6) {
+        0 => cut_in_a_value(random, job),
+        1 => cut_in_a_k(random, job),
+        2 => {
+            let instructions = parts.programs.iter_mut().flatten();
+            let mut without_k: Vec<&mut Item> = instructions
+                .filter(|instruction| !holds_value(instruction))
+                .collect();
+            if !without_k.is_empty() {
+                let chosen = random.below(without_k.len());
+                without_k[chosen].k = random.pick(&[0x0001, 0x0100, 0x0100, 0xFF00, 0xFFFF]);
+            }
+            parts.file()
+        }
+        3 => {
+            // A place behind the end, or one that has a good one in its low byte.
+            let thread = random.below(parts.programs.len());
+            let end = parts.programs[thread].len();
+            let place = random.between(0, end) as Value;
+            let bad = [
+                end as Value + 1,
+                255,
+                256 + place,
+                256 + place,
+                65_280 + place,
+            ];
+            parts.clauses[0] = item(1, thread as u8, 0, random.pick(&bad));
+            parts.file()
+        }
+        _ => {
+            let version = random.pick(&[0, 1, 2, 2, 3, 3, 4, 255]);
+            let between = random.between(longest_file(1), longest_file(3));
+            let length = match random.below(3) {
+                0 => between,
+                _ => random.pick(&lengths::edges()),
+            };
+            of_length(version, length)
+        }
+    }
+}
+
+/// Up to the middle of an initial value.
+fn cut_in_a_value(random: &mut Random, mut job: Vec<u8>) -> Vec<u8> {
+    let value = random.below(usize::from(job[6]));
+    job.truncate(7 + 2 * value + 1);
+    settled(job)
+}
+
+/// Up to the middle of the k of an instruction or a clause.
+fn cut_in_a_k(random: &mut Random, mut job: Vec<u8>) -> Vec<u8> {
+    let decoded = decode(&job).expect("only a sound job is cut so");
+    let first_clause = goal_offset(&decoded) + 2;
+    let clauses = (first_clause..job.len()).step_by(decoded.width().item_bytes());
+    let begins: Vec<usize> = instructions_at(&job).into_iter().chain(clauses).collect();
+    job.truncate(random.pick(&begins) + 4);
+    settled(job)
 }
 
 /// The numbers at and beside the ends of every range of the file.

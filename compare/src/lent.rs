@@ -1,10 +1,11 @@
 //! Memory as it is lent to a call: full of random contents, between guards that must stay.
 
+use second::machine::SLOT_BYTES;
 use second::random::Random;
 use std::fmt::Display;
 
 /// More than a slot, so that a slot written beside its place damages a guard and nothing else.
-const GUARD: usize = 128;
+const GUARD: usize = SLOT_BYTES + 32;
 
 /// What lent memory consists of.
 pub trait Cell: Copy + Eq + Display {
@@ -79,6 +80,13 @@ impl<T: Cell> Lent<T> {
     /// The pointer may reach the guards, so that a write there is seen and not undefined.
     pub fn pointer(&mut self) -> *mut T {
         self.cells[self.first..].as_mut_ptr()
+    }
+
+    /// Whether all but so many cells from the first on, guards included, is as it is in the other.
+    pub fn is_alike_behind(&self, other: &Lent<T>, count: usize) -> bool {
+        let written = self.first..self.first + count;
+        self.cells[..written.start] == other.cells[..written.start]
+            && self.cells[written.end..] == other.cells[written.end..]
     }
 
     /// Where this memory, guards included, first differs from the other; the names say whose each is.

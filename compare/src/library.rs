@@ -2,11 +2,11 @@
 
 use crate::call::{Call, Checker, Kind};
 
-/// Declares a search of an archive; each slice is a pointer and then a length, the answer is four words.
-macro_rules! c_search {
-    ($name:ident) => {
+/// Declares the functions of an archive, and a checker that calls them; each slice is a pointer and then a length, the answer is four words.
+macro_rules! archive {
+    ($checker:ident, $search:ident, $replay:ident, $fences:ident) => {
         extern "C" {
-            fn $name(
+            fn $search(
                 job: *const u8,
                 job_len: usize,
                 table: *mut u8,
@@ -17,24 +17,60 @@ macro_rules! c_search {
                 schedule_len: usize,
                 answer: *mut u64,
             );
+            fn $replay(
+                job: *const u8,
+                job_len: usize,
+                schedule: *const u8,
+                schedule_len: usize,
+                answer: *mut u64,
+            );
+            fn $fences(job: *const u8, job_len: usize, answer: *mut u64);
+        }
+
+        impl Checker for $checker {
+            fn run(&self, call: &mut Call) {
+                let (job, job_len) = (call.job.pointer(), call.job.count());
+                let (schedule, schedule_len) = (call.schedule.pointer(), call.schedule.count());
+                let answer = call.answer.pointer();
+                // SAFETY: every pointer comes with the count of cells lent behind it, and the answer has four.
+                unsafe {
+                    match call.kind {
+                        Kind::Search => $search(
+                            job,
+                            job_len,
+                            call.table.pointer(),
+                            call.table.count(),
+                            call.links.pointer(),
+                            call.links.count(),
+                            schedule,
+                            schedule_len,
+                            answer,
+                        ),
+                        Kind::Replay => $replay(job, job_len, schedule, schedule_len, answer),
+                        Kind::Fences => $fences(job, job_len, answer),
+                    }
+                }
+            }
         }
     };
 }
 
-c_search!(handshake_search);
-#[cfg(feature = "before")]
-c_search!(before_search);
+/// The library in a comparison, where it gets pointers into guarded memory.
+pub struct Library;
 
-extern "C" {
-    fn handshake_replay(
-        job: *const u8,
-        job_len: usize,
-        schedule: *const u8,
-        schedule_len: usize,
-        answer: *mut u64,
-    );
-    fn handshake_fences(job: *const u8, job_len: usize, answer: *mut u64);
-}
+archive!(
+    Library,
+    handshake_search,
+    handshake_replay,
+    handshake_fences
+);
+
+/// The same of an earlier commit's archive.
+#[cfg(feature = "before")]
+pub struct Before;
+
+#[cfg(feature = "before")]
+archive!(Before, before_search, before_replay, before_fences);
 
 /// A search over slices by one that was declared so.
 macro_rules! search_by {
@@ -96,33 +132,4 @@ pub fn fences(job: &[u8]) -> [u64; 4] {
     // SAFETY: as above.
     unsafe { handshake_fences(job.as_ptr(), job.len(), answer.as_mut_ptr()) };
     answer
-}
-
-/// The library in a comparison, where it gets pointers into guarded memory.
-pub struct Library;
-
-impl Checker for Library {
-    fn run(&self, call: &mut Call) {
-        let (job, job_len) = (call.job.pointer(), call.job.count());
-        let (schedule, schedule_len) = (call.schedule.pointer(), call.schedule.count());
-        let answer = call.answer.pointer();
-        // SAFETY: every pointer comes with the count of cells lent behind it, and the answer has four.
-        unsafe {
-            match call.kind {
-                Kind::Search => handshake_search(
-                    job,
-                    job_len,
-                    call.table.pointer(),
-                    call.table.count(),
-                    call.links.pointer(),
-                    call.links.count(),
-                    schedule,
-                    schedule_len,
-                    answer,
-                ),
-                Kind::Replay => handshake_replay(job, job_len, schedule, schedule_len, answer),
-                Kind::Fences => handshake_fences(job, job_len, answer),
-            }
-        }
-    }
 }

@@ -3,7 +3,7 @@
 use crate::work::looked_up;
 use second::machine::{State, SLOT_BYTES};
 use second::Job;
-use std::collections::HashSet;
+use std::collections::{BTreeMap, HashSet};
 
 /// Bytes of a piece.
 pub const PIECE: usize = 8;
@@ -24,19 +24,14 @@ fn pieces_of(state: &State) -> Pieces {
     in_pieces(&state.slot())
 }
 
-/// Of each piece, whether two of the slots differ in this one alone: a look-up that skips it takes them for one state.
-pub fn decide_alone(slots: &[u8]) -> [bool; PIECES] {
-    let slots: Vec<Pieces> = slots.chunks(SLOT_BYTES).map(in_pieces).collect();
-    let mut decide = [false; PIECES];
-    for (piece, decides) in decide.iter_mut().enumerate() {
-        let mut others = HashSet::new();
-        *decides = !slots.iter().all(|slot| {
-            let mut rest = *slot;
-            rest[piece] = [0; PIECE];
-            others.insert(rest)
-        });
-    }
-    decide
+/// Whether two of the slots differ in this piece alone: a look-up that skips it takes them for one state.
+pub fn decides_alone(slots: &[u8], piece: usize) -> bool {
+    let mut others = HashSet::new();
+    !slots.chunks(SLOT_BYTES).all(|slot| {
+        let mut rest = in_pieces(slot);
+        rest[piece] = [0; PIECE];
+        others.insert(rest)
+    })
 }
 
 pub fn from_the_front() -> Vec<usize> {
@@ -46,8 +41,8 @@ pub fn from_the_front() -> Vec<usize> {
 /// The comparisons of a search with slots that hold another state.
 #[derive(Clone)]
 pub struct Told {
-    /// How many comparisons met two states that differ in just these pieces, a bit for each piece.
-    by_set: Vec<u64>,
+    /// How many comparisons met two states that differ in just these pieces, a bit for each piece; those that none met are left out.
+    by_set: BTreeMap<usize, u64>,
     /// How many slots are compared, of equal states too: from the oldest on, and from the newest back.
     pub from_oldest: u64,
     pub from_newest: u64,
@@ -56,7 +51,7 @@ pub struct Told {
 impl Told {
     pub fn none() -> Told {
         Told {
-            by_set: vec![0; 1 << PIECES],
+            by_set: BTreeMap::new(),
             from_oldest: 0,
             from_newest: 0,
         }
@@ -65,6 +60,8 @@ impl Told {
     /// Those of a search for a goal that is never met, from the newest slot back as `crates/search` goes about it.
     pub fn of(job: &Job, slots: usize) -> Told {
         let mut told = Told::none();
+        // There are too many comparisons to look each set up in a map.
+        let mut by_set = vec![0; 1 << PIECES];
         let mut counted: Vec<Pieces> = Vec::new();
         looked_up(job, slots, |states, next, known| {
             counted.extend(states[counted.len()..].iter().map(pieces_of));
@@ -73,15 +70,17 @@ impl Told {
             let next = pieces_of(next);
             let newer = known.map_or(0, |slot| slot + 1);
             for other in &counted[newer..] {
-                told.by_set[differing(&next, other)] += 1;
+                by_set[differing(&next, other)] += 1;
             }
         });
+        let met = by_set.into_iter().enumerate().filter(|&(_, n)| n > 0);
+        told.by_set = met.collect();
         told
     }
 
     pub fn add(&mut self, other: &Told) {
-        for (sum, more) in self.by_set.iter_mut().zip(&other.by_set) {
-            *sum += more;
+        for (&set, more) in &other.by_set {
+            *self.by_set.entry(set).or_default() += more;
         }
         self.from_oldest += other.from_oldest;
         self.from_newest += other.from_newest;
@@ -89,13 +88,13 @@ impl Told {
 
     /// How many comparisons there were.
     pub fn comparisons(&self) -> u64 {
-        self.by_set.iter().sum()
+        self.by_set.values().sum()
     }
 
     /// How many of them the first piece of the order tells apart, the second, and so on.
     pub fn at(&self, order: &[usize]) -> Vec<u64> {
         let mut at = vec![0; order.len()];
-        for (set, &comparisons) in self.met() {
+        for (&set, &comparisons) in &self.by_set {
             let first = order.iter().position(|&piece| has(set, piece));
             at[first.expect("two states differ in a piece of the order")] += comparisons;
         }
@@ -116,9 +115,8 @@ impl Told {
         while !left.is_empty() {
             let told = |piece: usize| -> u64 {
                 let alike = |set: usize| !order.iter().any(|&earlier| has(set, earlier));
-                let apart = self
-                    .met()
-                    .filter(|(set, _)| has(*set, piece) && alike(*set));
+                let sets = self.by_set.iter();
+                let apart = sets.filter(|(&set, _)| has(set, piece) && alike(set));
                 apart.map(|(_, comparisons)| comparisons).sum()
             };
             // The foremost of those that tell equally many apart.
@@ -126,10 +124,6 @@ impl Told {
             order.push(left.remove(best.expect("a piece is left")));
         }
         order
-    }
-
-    fn met(&self) -> impl Iterator<Item = (usize, &u64)> {
-        self.by_set.iter().enumerate().filter(|(_, &n)| n > 0)
     }
 }
 
@@ -165,7 +159,7 @@ mod tests {
     }
 
     #[test]
-    fn memory_begins_in_the_third_piece() {
+    fn memory_begins_in_the_fifth_piece() {
         // Variable 0 counts, the register is 0 again at place 0 and at place 4.
         let count = vec![
             [3, 0, 0, 0],
@@ -177,10 +171,10 @@ mod tests {
         let told = told(count, 6);
         // The sixth state is place 0 with variable 0 at 1; it is like the first but for its memory.
         let at = told.at(&from_the_front());
-        assert_eq!(at[2], 1);
+        assert_eq!(at[4], 1);
         assert_eq!(at.iter().sum::<u64>(), told.comparisons());
         let mut memory_first = from_the_front();
-        memory_first.swap(0, 2);
+        memory_first.swap(0, 4);
         assert_eq!(told.by_turns()[0], 0);
         assert!(told.pieces_each(&from_the_front()) < told.pieces_each(&memory_first));
     }
@@ -188,14 +182,15 @@ mod tests {
     #[test]
     fn a_piece_decides_alone_where_all_others_are_equal() {
         let mut slots = vec![7; 3 * SLOT_BYTES];
-        // Slot 1 is like slot 0 but for piece 5; slot 2 differs from both in two pieces at least.
-        slots[SLOT_BYTES + 5 * PIECE] = 8;
+        // Slot 1 is like slot 0 but for the last piece; slot 2 differs from both in two pieces at least.
+        let last = PIECES - 1;
+        slots[SLOT_BYTES + last * PIECE] = 8;
         slots[2 * SLOT_BYTES] = 8;
-        slots[2 * SLOT_BYTES + 11 * PIECE] = 8;
-        let mut five_alone = [false; PIECES];
-        five_alone[5] = true;
-        assert_eq!(decide_alone(&slots), five_alone);
-        assert_eq!(decide_alone(&slots[..SLOT_BYTES]), [false; PIECES]);
+        slots[2 * SLOT_BYTES + 5 * PIECE] = 8;
+        for piece in 0..PIECES {
+            assert_eq!(decides_alone(&slots, piece), piece == last);
+            assert!(!decides_alone(&slots[..SLOT_BYTES], piece));
+        }
     }
 
     #[test]

@@ -1,13 +1,12 @@
 //! The jobs of the speed table.
 
+pub use second::bench::BENCH_SLOTS;
 use second::listed::{file, Memory, Program, AT_THE_START, PSO, SC, TSO};
 
 pub const MODELS: [(&str, Memory); 3] = [("SC", SC), ("TSO", [TSO, 2]), ("PSO", [PSO, 2])];
 
 /// The rows of the table; the first has the bench program's slots.
 pub const SLOTS: [usize; 3] = [BENCH_SLOTS, 4096, 16_384];
-
-pub const BENCH_SLOTS: usize = 640;
 
 pub const THREADS: u8 = 4;
 

@@ -2,20 +2,26 @@
 
 use crate::blank::Blank;
 use crate::call::{Call, Kind};
-use crate::groups;
-use crate::pieces::{decide_alone, PIECES};
+use crate::calls::First;
+use crate::pieces::{decides_alone, PIECES};
 use crate::rooms::{self, Room};
+use crate::run::Counts;
 use crate::schedules::LONG;
+use crate::{groups, lengths, sums};
 use second::job::Instruction;
 use second::long_threads::{ends_high, HIGH_END, HIGH_GOAL};
 use second::machine::{Reason, SLOT_BYTES};
-use second::version_two::{self, is_compare_exchange, is_wfence, Searched};
+use second::version_three::{self, WIDE_CLAUSE, WIDE_K};
+use second::version_two::{self, Searched, WITH_CMPX, WITH_WFENCE};
 use second::{dead_code, long_threads, reasons, Job};
 use std::collections::BTreeMap;
 
 type Class = (&'static str, &'static str);
 
-const NUMBERS: [&str; PIECES] = ["0", "1", "2", "3", "4", "5", "6", "7", "8", "9", "10", "11"];
+const NUMBERS: [&str; PIECES] = [
+    "0", "1", "2", "3", "4", "5", "6", "7", "8", "9", "10", "11", "12", "13", "14", "15", "16",
+    "17", "18",
+];
 const JOBS: &str = "jobs";
 const REFUSED: &str = "jobs refused by";
 const ROOM: &str = "rooms";
@@ -44,20 +50,56 @@ const LONG_THREAD_RUNS: &str = "long threads, runs";
 const DEAD_CODE: &str = "dead code";
 const DEAD_CODE_CHECKS: &str = "dead code, checks";
 const VERSIONS: &str = "versions";
-const VERSION_SEARCHES: [&str; 2] = ["searches, version 1", "searches, version 2"];
+const VERSION_SEARCHES: [&str; 3] = [
+    "searches, version 1",
+    "searches, version 2",
+    "searches, version 3",
+];
 const IN_BOTH_VERSIONS: &str = "in both versions";
-const VERSION_TWO: &str = "version 2";
-const VERSION_TWO_UNDER: &str = "version 2 under";
-const VERSION_TWO_SLOTS: &str = "version 2, slots";
-const VERSION_TWO_SEARCHES: &str = "version 2, searches";
-const VERSION_TWO_REPLAYS: &str = "version 2, replays";
-const VERSION_TWO_CHECKS: &str = "version 2, checks";
+const LENGTHS: &str = "bytes";
+const NARROW: &str = "narrow values";
+const WIDE: &str = "wide values";
+const WIDE_REFUSED: &str = "wide values, refused";
+const WIDE_SLOTS: &str = "wide values, slots";
+const WIDE_REPLAYS: &str = "wide values, replays";
 const PIECE_ALONE: &str = "one piece apart";
 
+/// The sections of a version that has CMPX and WFENCE.
+struct Newer {
+    version: u8,
+    under: &'static str,
+    jobs: &'static str,
+    searches: &'static str,
+    slots: &'static str,
+    replays: &'static str,
+    checks: &'static str,
+}
+
+const TWO: Newer = Newer {
+    version: 2,
+    under: "version 2 under",
+    jobs: "version 2",
+    searches: "version 2, searches",
+    slots: "version 2, slots",
+    replays: "version 2, replays",
+    checks: "version 2, checks",
+};
+
+const THREE: Newer = Newer {
+    version: 3,
+    under: "version 3 under",
+    jobs: "version 3",
+    searches: "version 3, searches",
+    slots: "version 3, slots",
+    replays: "version 3, replays",
+    checks: "version 3, checks",
+};
+
 /// Every class that is named in the summary, in its order.
-const SECTIONS: [(&str, &[&str]); 41] = [
+const SECTIONS: [(&str, &[&str]); 54] = [
     (JOBS, &["accepted", "refused"]),
-    (VERSIONS, &["1", "2"]),
+    (VERSIONS, &["1", "2", "3"]),
+    (LENGTHS, &lengths::OF_FILES),
     (REFUSED, &["1", "2", "3", "4", "5", "6"]),
     (THREADS, &["1", "2", "3", "4"]),
     (VARIABLES, &["1", "2", "3", "4", "5", "6", "7", "8"]),
@@ -76,40 +118,77 @@ const SECTIONS: [(&str, &[&str]); 41] = [
     (LONG_THREAD_RUNS, &[HIGH_GOAL, HIGH_END]),
     (DEAD_CODE, &dead_code::OF_JOBS),
     (DEAD_CODE_CHECKS, &dead_code::OF_FENCE_CHECKS),
-    (VERSION_TWO_UNDER, &version_two::WITH_MEMORY),
+    (TWO.under, &version_two::WITH_MEMORY),
     (
-        VERSION_TWO,
+        TWO.jobs,
         &[
-            version_two::WITH_CMPX[0],
-            version_two::WITH_CMPX[1],
-            version_two::WITH_CMPX[2],
-            version_two::WITH_WFENCE[0],
-            version_two::WITH_WFENCE[1],
-            version_two::WITH_WFENCE[2],
+            WITH_CMPX[0],
+            WITH_CMPX[1],
+            WITH_CMPX[2],
+            WITH_WFENCE[0],
+            WITH_WFENCE[1],
+            WITH_WFENCE[2],
             version_two::NEITHER,
             version_two::IN_VERSION_ONE,
             version_two::BAD_OPERAND,
             version_two::NO_VERSION,
         ],
     ),
-    (VERSION_TWO_SEARCHES, &version_two::OF_SEARCHES),
-    (VERSION_TWO_SLOTS, &groups::OF_SLOTS),
-    (VERSION_TWO_REPLAYS, &version_two::OF_REPLAYS),
-    (VERSION_TWO_CHECKS, &version_two::OF_FENCE_CHECKS),
+    (TWO.searches, &version_two::OF_SEARCHES),
+    (TWO.slots, &groups::OF_SLOTS),
+    (TWO.replays, &version_two::OF_REPLAYS),
+    (TWO.checks, &version_two::OF_FENCE_CHECKS),
+    (THREE.under, &version_two::WITH_MEMORY),
     (
-        IN_BOTH_VERSIONS,
+        THREE.jobs,
         &[
-            "refused",
-            "reachable",
-            "unreachable",
-            "unknown",
-            "reaches",
-            "falls short",
-            "stuck",
-            "FENCED",
-            "OPEN",
+            WITH_CMPX[0],
+            WITH_CMPX[1],
+            WITH_CMPX[2],
+            WITH_WFENCE[0],
+            WITH_WFENCE[1],
+            WITH_WFENCE[2],
+            version_two::NEITHER,
+            version_two::BAD_OPERAND,
         ],
     ),
+    (THREE.searches, &version_two::OF_SEARCHES),
+    (THREE.slots, &groups::OF_SLOTS),
+    (THREE.replays, &version_two::OF_REPLAYS),
+    (THREE.checks, &version_two::OF_FENCE_CHECKS),
+    (
+        WIDE,
+        &[
+            version_three::WIDE_INITIAL,
+            WIDE_K[0],
+            WIDE_K[1],
+            WIDE_K[2],
+            WIDE_K[3],
+            WIDE_K[4],
+            WIDE_CLAUSE[0],
+            WIDE_CLAUSE[1],
+            version_three::AT_MOST,
+            version_three::LONG_FILE,
+        ],
+    ),
+    (
+        WIDE_REFUSED,
+        &[
+            version_three::TOO_LONG,
+            version_three::TOO_LONG_BEFORE,
+            version_three::TOO_LONG_OTHERWISE,
+            version_three::HALF_A_VALUE,
+            version_three::HALF_A_K,
+            version_three::HIGH_NOT_0,
+            version_three::LOW_NOT_0,
+            version_three::HIGH_PLACE,
+            version_three::LOW_PLACE,
+        ],
+    ),
+    (WIDE_SLOTS, &version_three::OF_WIDE_SEARCHES),
+    (WIDE_REPLAYS, &version_three::OF_WIDE_REPLAYS),
+    (NARROW, &sums::OVER_255),
+    (IN_BOTH_VERSIONS, &ANSWERS),
     (
         GOALS,
         &["any buffers", "empty buffers", "1 clause", "16 clauses"],
@@ -156,6 +235,10 @@ const SECTIONS: [(&str, &[&str]); 41] = [
         VERSION_SEARCHES[1],
         &["reachable", "unreachable", "unknown"],
     ),
+    (
+        VERSION_SEARCHES[2],
+        &["reachable", "unreachable", "unknown"],
+    ),
     (PIECE_ALONE, &NUMBERS),
     (
         DISTANCE,
@@ -195,9 +278,11 @@ const SECTIONS: [(&str, &[&str]); 41] = [
 ];
 
 /// Sections whose classes are numbers themselves, or end in one.
-const NUMBERED: [&str; 13] = [
+const NUMBERED: [&str; 15] = [
     VERSIONS,
-    VERSION_TWO_UNDER,
+    LENGTHS,
+    TWO.under,
+    THREE.under,
     REFUSED,
     REFUSED_SEARCHES,
     THREADS,
@@ -218,8 +303,8 @@ pub struct Tally {
     pub most_states: u64,
 }
 
-impl Tally {
-    pub fn add(&mut self, other: &Tally) {
+impl Counts for Tally {
+    fn add(&mut self, other: &Tally) {
         for (&class, count) in &other.counts {
             *self.counts.entry(class).or_default() += count;
         }
@@ -227,16 +312,7 @@ impl Tally {
         self.most_states = self.most_states.max(other.most_states);
     }
 
-    fn count(&mut self, section: &'static str, class: &'static str) {
-        *self.counts.entry((section, class)).or_default() += 1;
-    }
-
-    pub fn counted(&self, section: &'static str, class: &'static str) -> u64 {
-        self.counts.get(&(section, class)).copied().unwrap_or(0)
-    }
-
-    /// Classes of the summary that the run never met.
-    pub fn empty_classes(&self) -> Vec<String> {
+    fn empty_classes(&self) -> Vec<String> {
         let classes = SECTIONS
             .iter()
             .flat_map(|&(section, classes)| classes.iter().map(move |&class| (section, class)));
@@ -244,6 +320,54 @@ impl Tally {
             .filter(|&(section, class)| self.counted(section, class) == 0)
             .map(|(section, class)| format!("{section}: {class}"))
             .collect()
+    }
+
+    /// One line a section, and the greatest numbers.
+    fn summary(&self) -> String {
+        let mut text = String::new();
+        for (section, classes) in SECTIONS {
+            let counts: Vec<String> = classes
+                .iter()
+                .map(|&class| {
+                    let count = self.counted(section, class);
+                    if NUMBERED.contains(&section) {
+                        format!("{class}: {count}")
+                    } else {
+                        format!("{class} {count}")
+                    }
+                })
+                .collect();
+            text += &format!("{section:20} {}\n", counts.join(", "));
+        }
+        let far: u64 = ["5 to 9", "10 to 19", "20 or more"]
+            .iter()
+            .map(|class| self.counted(DISTANCE, class))
+            .sum();
+        text += &format!(
+            "{:20} the greatest distance {}, {far} of 5 or more; the largest search counted {} states\n",
+            "", self.greatest_distance, self.most_states
+        );
+        text
+    }
+}
+
+impl Tally {
+    fn count(&mut self, section: &'static str, class: &'static str) {
+        *self.counts.entry((section, class)).or_default() += 1;
+    }
+
+    /// Counts those of the classes that the section names.
+    fn count_those_of(&mut self, section: &'static str, classes: &[&'static str]) {
+        let mut sections = SECTIONS.iter();
+        let named = sections.find(|(name, _)| *name == section);
+        let (_, named) = named.expect("only a section of the summary is counted");
+        for class in classes.iter().filter(|class| named.contains(class)) {
+            self.count(section, class);
+        }
+    }
+
+    pub fn counted(&self, section: &'static str, class: &'static str) -> u64 {
+        self.counts.get(&(section, class)).copied().unwrap_or(0)
     }
 
     pub fn refused_job(&mut self, number: u8, blank: Option<Blank>) {
@@ -270,25 +394,25 @@ impl Tally {
         }
     }
 
-    /// What the requests have made new about a job, accepted or refused: long threads, dead code, and version 2.
+    /// What the requests have made new about a job, accepted or refused: long threads, dead code, and versions 2 and 3.
     pub fn of_requests(&mut self, job: &[u8]) {
-        let (under, others) = version_two::of_job(job)
-            .into_iter()
-            .partition(|class| version_two::WITH_MEMORY.contains(class));
-        let of_sections = [
-            (LONG_THREADS, long_threads::of_job(job)),
-            (LONG_THREAD_CHECKS, long_threads::of_fence_check(job)),
-            (DEAD_CODE, dead_code::of_job(job)),
-            (DEAD_CODE_CHECKS, dead_code::of_fence_check(job)),
-            (VERSION_TWO_UNDER, under),
-            (VERSION_TWO, others),
-            (VERSION_TWO_CHECKS, version_two::of_fence_check(job)),
-        ];
-        for (section, classes) in of_sections {
-            for class in classes {
-                self.count(section, class);
-            }
+        self.count_those_of(LONG_THREADS, &long_threads::of_job(job));
+        self.count_those_of(LONG_THREAD_CHECKS, &long_threads::of_fence_check(job));
+        self.count_those_of(DEAD_CODE, &dead_code::of_job(job));
+        self.count_those_of(DEAD_CODE_CHECKS, &dead_code::of_fence_check(job));
+        if let Some(class) = lengths::of_file(job) {
+            self.count(LENGTHS, class);
         }
+        let of_two = version_two::of_job(job);
+        let of_three = version_three::of_job(job);
+        for (newer, classes) in [(TWO, &of_two), (THREE, &of_three)] {
+            self.count_those_of(newer.under, classes);
+            self.count_those_of(newer.jobs, classes);
+            let checks = version_two::of_fence_check_in(newer.version, job);
+            self.count_those_of(newer.checks, &checks);
+        }
+        self.count_those_of(WIDE, &of_three);
+        self.count_those_of(WIDE_REFUSED, &of_three);
     }
 
     pub fn accepted_job(&mut self, job: &Job) {
@@ -351,29 +475,41 @@ impl Tally {
         }
     }
 
-    /// The slots and links that a job's first search counted: which pieces alone tell two of the states apart, and what groups do.
-    pub fn slots(&mut self, search: &Call, job: &Job, slots: &[u8], links: &[u32]) {
-        let decide = decide_alone(slots);
-        for (class, _) in NUMBERS.iter().zip(decide).filter(|(_, alone)| *alone) {
-            self.count(PIECE_ALONE, class);
+    /// What the first search of a job shows: the goal's distance, which pieces alone tell two of the states apart, what groups do and what wide values do.
+    pub fn first_search(&mut self, first: &First) {
+        let First { search, slots, .. } = *first;
+        if let [1, distance, ..] = search.words() {
+            self.distance(distance);
         }
-        if has_new_operations(job) {
-            let searched = Searched {
-                answer: search.words(),
-                table: slots,
-                schedule: search.schedule.part(),
-            };
-            for class in version_two::of_search(search.job.part(), searched) {
-                self.count(VERSION_TWO_SEARCHES, class);
+        for (piece, class) in NUMBERS.iter().enumerate() {
+            if decides_alone(slots, piece) {
+                self.count(PIECE_ALONE, class);
             }
-            for class in groups::of_slots(slots, links) {
-                self.count(VERSION_TWO_SLOTS, class);
+        }
+        let job = search.job.part();
+        let searched = Searched {
+            answer: search.words(),
+            table: slots,
+            schedule: search.schedule.part(),
+        };
+        match first.job.version {
+            1 => {}
+            2 => self.of_newer_search(TWO, first, &version_two::of_search(job, searched)),
+            _ => {
+                let classes = version_three::of_search(job, searched);
+                self.count_those_of(WIDE_SLOTS, &classes);
+                self.of_newer_search(THREE, first, &classes);
             }
         }
     }
 
+    fn of_newer_search(&mut self, newer: Newer, first: &First, classes: &[&'static str]) {
+        self.count_those_of(newer.searches, classes);
+        self.count_those_of(newer.slots, &groups::of_slots(first.slots, first.links));
+    }
+
     /// The least distance of a goal, once for each job.
-    pub fn distance(&mut self, distance: u64) {
+    fn distance(&mut self, distance: u64) {
         self.greatest_distance = self.greatest_distance.max(distance);
         let class = match distance {
             0 => "0",
@@ -397,14 +533,7 @@ impl Tally {
 
     /// What was answered to a call that the library was given in both versions.
     pub fn call_in_both_versions(&mut self, call: &Call) {
-        let [kind, ..] = call.words();
-        let class = match (call.kind, kind) {
-            (_, 0) => "refused",
-            (Kind::Search, _) => search_class(kind),
-            (Kind::Replay, _) => replay_class(kind),
-            (Kind::Fences, _) => fences_class(kind),
-        };
-        self.count(IN_BOTH_VERSIONS, class);
+        self.count(IN_BOTH_VERSIONS, answer_class(call));
     }
 
     /// A search that finds a way, or a replay, which ends above place 32.
@@ -462,9 +591,24 @@ impl Tally {
         if let (3, Some(job)) = (kind, job) {
             self.stuck(call, job, reason);
         }
-        if job.map_or(false, has_new_operations) {
-            for class in version_two::of_replay(call.job.part(), call.schedule.part()) {
-                self.count(VERSION_TWO_REPLAYS, class);
+        if let Some(job) = job {
+            self.of_versions(call, job);
+        }
+    }
+
+    /// What a replay meets that only one of the versions has.
+    fn of_versions(&mut self, call: &Call, job: &Job) {
+        let [bytes, schedule] = [call.job.part(), call.schedule.part()];
+        if let Some(class) = sums::of_replay(job, schedule) {
+            self.count(NARROW, class);
+        }
+        match job.version {
+            1 => {}
+            2 => self.count_those_of(TWO.replays, &version_two::of_replay(bytes, schedule)),
+            _ => {
+                let classes = version_three::of_replay(bytes, schedule);
+                self.count_those_of(THREE.replays, &classes);
+                self.count_those_of(WIDE_REPLAYS, &classes);
             }
         }
     }
@@ -490,41 +634,31 @@ impl Tally {
         self.count("calls", "fence check");
         self.count(FENCES, fences_class(kind));
     }
+}
 
-    /// One line a section, and the greatest numbers.
-    pub fn summary(&self) -> String {
-        let mut text = String::new();
-        for (section, classes) in SECTIONS {
-            let counts: Vec<String> = classes
-                .iter()
-                .map(|&class| {
-                    let count = self.counted(section, class);
-                    if NUMBERED.contains(&section) {
-                        format!("{class}: {count}")
-                    } else {
-                        format!("{class} {count}")
-                    }
-                })
-                .collect();
-            text += &format!("{section:20} {}\n", counts.join(", "));
-        }
-        let far: u64 = ["5 to 9", "10 to 19", "20 or more"]
-            .iter()
-            .map(|class| self.counted(DISTANCE, class))
-            .sum();
-        text += &format!(
-            "{:20} the greatest distance {}, {far} of 5 or more; the largest search counted {} states\n",
-            "", self.greatest_distance, self.most_states
-        );
-        text
+/// What kind of answer a call has, whichever kind of call it is.
+pub fn answer_class(call: &Call) -> &'static str {
+    let [kind, ..] = call.words();
+    match (call.kind, kind) {
+        (_, 0) => "refused",
+        (Kind::Search, _) => search_class(kind),
+        (Kind::Replay, _) => replay_class(kind),
+        (Kind::Fences, _) => fences_class(kind),
     }
 }
 
-/// Whether it has a CMPX or a WFENCE.
-fn has_new_operations(job: &Job) -> bool {
-    let mut instructions = job.programs.iter().flatten();
-    instructions.any(|&instruction| is_compare_exchange(instruction) || is_wfence(instruction))
-}
+/// Every class of `answer_class`.
+pub const ANSWERS: [&str; 9] = [
+    "refused",
+    "reachable",
+    "unreachable",
+    "unknown",
+    "reaches",
+    "falls short",
+    "stuck",
+    "FENCED",
+    "OPEN",
+];
 
 fn search_class(kind: u64) -> &'static str {
     match kind {

@@ -107,6 +107,6 @@ mod tests {
 
     #[test]
     fn all_states_of_an_unreachable_goal_are_counted() {
-        assert_eq!(work_of(&bench_list()[1], 640).states, 13);
+        assert_eq!(work_of(&bench_list()[1], 20).states, 13);
     }
 }

@@ -1,11 +1,17 @@
 //! The library as its user meets it: a job's bytes, lent slices, four words back.
 
 use compare::library::{fences, replay, search};
+use compare::ring::BENCH_SLOTS;
+use second::job::{item, Item, Value};
 use second::listed::{
     accepted_list, at_the_limit, bench_list, every_memory, file, in_version, settled,
     too_long_threads, with_byte, Memory, Program, AT_THE_START, P1, PSO, SC, TSO,
 };
 use second::machine::SLOT_BYTES;
+use second::version_three_jobs::{
+    at_the_limit_of_three, file_of_three, in_three, of_length, raised, refused_of_three,
+};
+use second::version_two_jobs::at_the_limit_of_two;
 use std::collections::BTreeSet;
 use std::slice;
 
@@ -50,6 +56,32 @@ impl Run {
     }
 }
 
+// ---- a slot's bytes: values have two, the high one first ----
+
+const fn register_at(thread: usize, register: usize) -> usize {
+    4 + 8 * thread + 2 * register
+}
+
+const fn variable_at(variable: usize) -> usize {
+    36 + 2 * variable
+}
+
+const fn buffer_at(thread: usize) -> usize {
+    52 + 25 * thread
+}
+
+fn put(slot: &mut [u8], at: usize, bytes: &[u8]) {
+    slot[at..at + bytes.len()].copy_from_slice(bytes);
+}
+
+fn put_value(slot: &mut [u8], at: usize, value: impl Into<Value>) {
+    put(slot, at, &value.into().to_be_bytes());
+}
+
+fn value(slot: &[u8], at: usize) -> Value {
+    Value::from_be_bytes([slot[at], slot[at + 1]])
+}
+
 /// P `number` of the bench list.
 fn p(number: usize) -> Vec<u8> {
     bench_list().swap_remove(number - 1)
@@ -87,17 +119,25 @@ const P1_STATES: [Row; 22] = [
 /// Thread 0 stores 1 to variable 0, thread 1 stores 1 to variable 1.
 fn slot_of((places, registers, memory, pending, _): &Row) -> Vec<u8> {
     let mut slot = vec![0; SLOT_BYTES];
-    slot[..2].copy_from_slice(places);
-    slot[4] = registers[0];
-    slot[8] = registers[1];
-    slot[20..22].copy_from_slice(memory);
-    if pending[0] {
-        slot[28..31].copy_from_slice(&[1, 0, 1]);
-    }
-    if pending[1] {
-        slot[45..48].copy_from_slice(&[1, 1, 1]);
+    put(&mut slot, 0, places);
+    for (thread, pair) in [[1, 0, 0, 1], [1, 1, 0, 1]].iter().enumerate() {
+        put_value(&mut slot, register_at(thread, 0), registers[thread]);
+        put_value(&mut slot, variable_at(thread), memory[thread]);
+        if pending[thread] {
+            put(&mut slot, buffer_at(thread), pair);
+        }
     }
     slot
+}
+
+#[test]
+fn a_slot_has_152_bytes() {
+    let last = buffer_at(3) + 1 + 3 * 7 + 2;
+    assert_eq!((last + 1, SLOT_BYTES), (152, 152));
+    assert_eq!(run_sized(&P1, 152, 9, 9).answer, [3, 1, 0, 0]);
+    assert_eq!(run_sized(&P1, 151, 9, 9).answer, [0, 7, 0, 0]);
+    assert_eq!(run_sized(&P1, 22 * 152, 99, 99).answer, [1, 4, 22, 0]);
+    assert_eq!(run_sized(&P1, 22 * 152 - 1, 99, 99).answer, [3, 21, 0, 0]);
 }
 
 fn first_p1_slots(count: usize) -> Vec<u8> {
@@ -110,7 +150,7 @@ fn first_p1_links(count: usize) -> Vec<u32> {
 
 #[test]
 fn p1_whole() {
-    let run = run(&P1, 640);
+    let run = run(&P1, BENCH_SLOTS);
     assert_eq!(run.answer, [1, 4, 22, 0]);
     assert_eq!(run.table[..22 * SLOT_BYTES], first_p1_slots(22));
     assert_eq!(run.links[..22], first_p1_links(22));
@@ -146,7 +186,7 @@ fn p1_in_21_slots_is_unknown() {
 
 #[test]
 fn p2_is_unreachable_under_sc() {
-    let run = run(&p(2), 640);
+    let run = run(&p(2), BENCH_SLOTS);
     assert_eq!(run.answer, [2, 13, 0, 0]);
     assert_eq!(run.links[0], NO_LINK);
     assert!(run.wrote_no_more_than(13, 0));
@@ -154,7 +194,7 @@ fn p2_is_unreachable_under_sc() {
 
 #[test]
 fn p3_takes_two_flushes_more() {
-    let run = run(&p(3), 640);
+    let run = run(&p(3), BENCH_SLOTS);
     assert_eq!(run.answer, [1, 6, 34, 0]);
     assert_eq!(run.schedule[..6], [0x00, 0x00, 0x01, 0x01, 0x04, 0x0D]);
     assert_eq!(run.table[..22 * SLOT_BYTES], first_p1_slots(22));
@@ -187,7 +227,7 @@ fn p11_numbers_above_35_are_no_steps() {
 fn p1_is_open_and_p9_fenced() {
     assert_eq!(fences(&P1), [2, 0, 0, 1]);
     assert_eq!(fences(&p(9)), [1, 0, 0, 0]);
-    assert_eq!(run(&p(9), 640).answer[0], 2);
+    assert_eq!(run(&p(9), BENCH_SLOTS).answer[0], 2);
 }
 
 #[test]
@@ -208,7 +248,7 @@ fn refusals_are_alike_and_write_nothing() {
     ];
     for (job, number, offset) in cases {
         let refusal = [0, number, offset, 0];
-        let run = run(&job, 640);
+        let run = run(&job, BENCH_SLOTS);
         assert_eq!(run.answer, refusal, "{job:?}");
         assert!(run.wrote_no_more_than(0, 0));
         assert_eq!(replay(&job, &[0, 0, 1, 1]), refusal);
@@ -219,7 +259,7 @@ fn refusals_are_alike_and_write_nothing() {
 #[test]
 fn no_slot_is_refusal_7_and_comes_last() {
     let bad = with_byte(&P1, 10, 0x0A);
-    for (table, links, schedule) in [(95, 9, 9), (0, 9, 9), (960, 0, 9), (960, 9, 0)] {
+    for (table, links, schedule) in [(151, 9, 9), (0, 9, 9), (1520, 0, 9), (1520, 9, 0)] {
         let run = run_sized(&P1, table, links, schedule);
         assert_eq!(run.answer, [0, 7, 0, 0]);
         assert!(run.wrote_no_more_than(0, 0));
@@ -260,7 +300,7 @@ fn p12_a_blank_goal_is_refused_whatever_the_flag() {
         let job = with_goal(goal);
         let refusal = [0, 5, 28, 0];
         // With no slot as well: that is judged last.
-        for slots in [0, 1, 640] {
+        for slots in [0, 1, BENCH_SLOTS] {
             let run = run(&job, slots);
             assert_eq!(run.answer, refusal, "{goal:?}");
             assert!(run.wrote_no_more_than(0, 0));
@@ -299,7 +339,8 @@ fn a_thread_of_64_runs_to_its_end() {
     assert_eq!(enough.answer, [1, 64, 65, 0]);
     assert_eq!(enough.schedule[..64], [0; 64]);
     for (index, slot) in enough.table.chunks_exact(SLOT_BYTES).enumerate() {
-        assert_eq!((slot[0], slot[4]), (index as u8, index as u8));
+        let register = value(slot, register_at(0, 0));
+        assert_eq!((slot[0], register), (index as u8, index as Value));
     }
     assert!(enough.wrote_no_more_than(65, 64));
     assert_eq!(run(&job, 64).answer, [3, 64, 0, 0]);
@@ -336,13 +377,41 @@ fn a_thread_of_65_is_refused_by_all_three() {
 }
 
 #[test]
-fn the_longest_file_has_1109_bytes() {
-    let longest = at_the_limit();
-    assert_eq!(longest.len(), 1109);
-    assert_eq!(run(&longest, 9).answer, [3, 9, 0, 0]);
-    let one_more = settled([&longest[..], &[0]].concat());
-    assert_eq!(run(&one_more, 9).answer, [0, 1, 0, 0]);
-    assert_eq!(fences(&one_more), [0, 1, 0, 0]);
+fn the_longest_file_has_1109_bytes_and_in_version_3_it_has_1389() {
+    for (longest, bytes) in [
+        (at_the_limit(), 1109),
+        (at_the_limit_of_two(), 1109),
+        (at_the_limit_of_three(), 1389),
+    ] {
+        assert_eq!(longest.len(), bytes);
+        assert_eq!(run(&longest, 9).answer, [3, 9, 0, 0]);
+        assert_ne!(fences(&longest)[0], 0);
+        let one_more = settled([&longest[..], &[0]].concat());
+        assert_eq!(run(&one_more, 9).answer, [0, 1, 0, 0]);
+        assert_eq!(fences(&one_more), [0, 1, 0, 0]);
+        assert_eq!(replay(&one_more, &[]), [0, 1, 0, 0]);
+    }
+}
+
+#[test]
+fn refusal_1_looks_at_the_version_byte_before_that_is_judged() {
+    for version in [0, 1, 2, 4, 128, 255] {
+        for bytes in [1110, 1111, 1200, 1388, 1389, 1390, 65_537] {
+            let job = of_length(version, bytes);
+            assert_eq!(fences(&job), [0, 1, 0, 0], "{bytes} in {version}");
+        }
+        // At 1,109 bytes the version is judged, if it is none.
+        if ![1, 2].contains(&version) {
+            assert_eq!(fences(&of_length(version, 1109)), [0, 2, 2, 0]);
+        }
+    }
+    // In version 3 the last clause begins at 1,384.
+    assert_eq!(fences(&of_length(3, 1388)), [0, 6, 1384, 0]);
+    assert_eq!(fences(&of_length(3, 1390)), [0, 1, 0, 0]);
+    // Without a version byte there is nothing to look at.
+    for job in [&[][..], &[0], &[0, 0]] {
+        assert_eq!(fences(job), [0, 1, 0, 0]);
+    }
 }
 
 #[test]
@@ -800,7 +869,7 @@ fn operands_of_cmpx_and_wfence_are_judged() {
 fn the_bench_list_has_the_same_answers_in_version_2() {
     for (job, slots) in accepted_list()
         .into_iter()
-        .flat_map(|job| [1, 5, 640].map(|slots| (job.clone(), slots)))
+        .flat_map(|job| [1, 5, BENCH_SLOTS].map(|slots| (job.clone(), slots)))
     {
         let of_two = in_version(&job, 2);
         let [one, two] = [&job, &of_two].map(|job| run(job, slots));
@@ -827,10 +896,10 @@ fn message_passing(memory: Memory, between: &[[u8; 4]]) -> Vec<u8> {
 type PassingRow = ([u8; 2], [u8; 2], [u8; 2], &'static [u8], u32);
 
 /// The writer's buffer: x alone, and with a WFENCE behind it; x and in the next group y; y, whose group is now the oldest.
-const X: &[u8] = &[1, 0, 1];
-const X_MARKED: &[u8] = &[129, 0, 1];
-const X_THEN_Y: &[u8] = &[2, 0, 1, 17, 1];
-const Y: &[u8] = &[1, 1, 1];
+const X: &[u8] = &[1, 0, 0, 1];
+const X_MARKED: &[u8] = &[129, 0, 0, 1];
+const X_THEN_Y: &[u8] = &[2, 0, 0, 1, 17, 0, 1];
+const Y: &[u8] = &[1, 1, 0, 1];
 
 /// All states of message passing with a WFENCE under PSO at C = 2, in order, worked out by hand.
 const PASSING_STATES: [PassingRow; 30] = [
@@ -868,40 +937,61 @@ const PASSING_STATES: [PassingRow; 30] = [
     ([3, 2], [1, 1], [1, 1], &[], 26 * 64 + 1),
 ];
 
+/// The slot of a state of message passing, each value times `unit`.
+fn passing_slot((places, registers, memory, buffer, _): PassingRow, unit: Value) -> Vec<u8> {
+    let mut slot = vec![0; SLOT_BYTES];
+    put(&mut slot, 0, &places);
+    for at in 0..2 {
+        put_value(
+            &mut slot,
+            register_at(1, at),
+            unit * Value::from(registers[at]),
+        );
+        put_value(&mut slot, variable_at(at), unit * Value::from(memory[at]));
+    }
+    put(&mut slot, buffer_at(0), buffer);
+    for store in slot[buffer_at(0) + 1..buffer_at(1)].chunks_exact_mut(3) {
+        let stored = value(store, 1);
+        put_value(store, 1, unit * stored);
+    }
+    slot
+}
+
 #[test]
 fn message_passing_with_a_wfence_whole() {
-    let run = run(&message_passing([PSO, 2], &[WFENCE]), 640);
-    assert_eq!(run.answer, [2, 30, 0, 0]);
-    for (slot, row) in run.table.chunks_exact(SLOT_BYTES).zip(PASSING_STATES) {
-        let (places, registers, memory, buffer, _) = row;
-        let mut expected = vec![0; SLOT_BYTES];
-        expected[..2].copy_from_slice(&places);
-        expected[8..10].copy_from_slice(&registers);
-        expected[20..22].copy_from_slice(&memory);
-        expected[28..28 + buffer.len()].copy_from_slice(buffer);
-        assert_eq!(slot, expected, "{row:?}");
+    let narrow = message_passing([PSO, 2], &[WFENCE]);
+    for (job, unit) in [
+        (narrow.clone(), 1),
+        (in_three(&narrow), 1),
+        (raised(&narrow), 256),
+    ] {
+        let run = run(&job, BENCH_SLOTS);
+        assert_eq!(run.answer, [2, 30, 0, 0]);
+        for (slot, row) in run.table.chunks_exact(SLOT_BYTES).zip(PASSING_STATES) {
+            assert_eq!(slot, passing_slot(row, unit), "{row:?}");
+        }
+        assert_eq!(run.links[..30], PASSING_STATES.map(|row| row.4));
+        assert!(run.wrote_no_more_than(30, 0));
     }
-    assert_eq!(run.links[..30], PASSING_STATES.map(|row| row.4));
-    assert!(run.wrote_no_more_than(30, 0));
 }
 
 #[test]
 fn a_wfence_keeps_the_message_in_order_under_pso() {
     for memory in every_memory() {
-        let plain = run(&message_passing(memory, &[]), 640).answer[0];
+        let plain = run(&message_passing(memory, &[]), BENCH_SLOTS).answer[0];
         // P7: with room for one store the first has landed before the second is issued.
         let reachable = memory[0] == PSO && memory[1] > 1;
         assert_eq!(plain, if reachable { 1 } else { 2 }, "{memory:?}");
-        let kept = run(&message_passing(memory, &[WFENCE]), 640).answer[0];
+        let kept = run(&message_passing(memory, &[WFENCE]), BENCH_SLOTS).answer[0];
         assert_eq!(kept, 2, "{memory:?}");
     }
 }
 
-/// The count and the pairs of thread 0's buffer, in all states of a job of one thread in which it is at this place.
+/// The count and the stores of thread 0's buffer, in all states of a job of version 2 and one thread in which it is at this place.
 fn buffers_at(job: &[u8], place: u8) -> BTreeSet<Vec<u8>> {
     // The goal is never met, so that all states are counted.
     let never = settled([&job[..job.len() - 5], &[2], &AT_THE_START, &[1, 0, 0, 1]].concat());
-    let run = run(&never, 640);
+    let run = run(&never, BENCH_SLOTS);
     let counted = match run.answer {
         [2, states, 0, 0] => states as usize,
         answer => panic!("{answer:?}"),
@@ -909,8 +999,9 @@ fn buffers_at(job: &[u8], place: u8) -> BTreeSet<Vec<u8>> {
     let slots = run.table.chunks_exact(SLOT_BYTES).take(counted);
     let here = slots.filter(|slot| slot[0] == place);
     let buffers = here.map(|slot| {
-        let pairs = usize::from(slot[28] % 128);
-        let (buffer, unused) = slot[28..].split_at(1 + 2 * pairs);
+        let buffer = &slot[buffer_at(0)..];
+        let stores = usize::from(buffer[0] % 128);
+        let (buffer, unused) = buffer.split_at(1 + 3 * stores);
         assert!(unused.iter().all(|&byte| byte == 0));
         buffer.to_vec()
     });
@@ -933,9 +1024,9 @@ fn three_groups_with_one_variable_in_two_of_them() {
     let job = job_of_two([PSO, 3], 2, &[program]);
     // All three, and then the groups that are left, counted from the oldest of these.
     let left = set_of(&[
-        &[3, 0, 1, 17, 2, 32, 3],
-        &[2, 1, 2, 16, 3],
-        &[1, 0, 3],
+        &[3, 0, 0, 1, 17, 0, 2, 32, 0, 3],
+        &[2, 1, 0, 2, 16, 0, 3],
+        &[1, 0, 0, 3],
         &[0],
     ]);
     assert_eq!(buffers_at(&job, 5), left);
@@ -951,7 +1042,7 @@ fn three_groups_with_one_variable_in_two_of_them() {
 }
 
 #[test]
-fn pairs_stand_by_group_and_then_by_variable() {
+fn stores_stand_by_group_and_then_by_variable() {
     // 2, 1, 1 again, then 0 and 2.
     let program = vec![
         store_value(2, 1),
@@ -962,7 +1053,12 @@ fn pairs_stand_by_group_and_then_by_variable() {
         store_value(0, 5),
     ];
     let job = job_of_two([PSO, 5], 3, &[program]);
-    let whole = vec![5, 1, 2, 1, 3, 2, 1, 16, 5, 18, 4];
+    let whole = [
+        &[5][..],
+        &[1, 0, 2, 1, 0, 3, 2, 0, 1],
+        &[16, 0, 5, 18, 0, 4],
+    ]
+    .concat();
     assert!(buffers_at(&job, 6).contains(&whole));
 }
 
@@ -985,7 +1081,7 @@ fn what_a_wfence_leaves() {
     // Of two stores one may go, and the mark stays.
     assert_eq!(
         buffers(&[store(0), store(1), WFENCE], 3),
-        set_of(&[&[130, 0, 1, 1, 1], X_MARKED, &[129, 1, 1], empty])
+        set_of(&[&[130, 0, 0, 1, 1, 0, 1], X_MARKED, &[129, 1, 0, 1], empty])
     );
     // A store that joins ends it, and begins the next group; two in a row are as one.
     let then_y = set_of(&[X_THEN_Y, Y, empty]);
@@ -994,7 +1090,7 @@ fn what_a_wfence_leaves() {
     // Under TSO nothing at all.
     let tso = job_of_two([TSO, 2], 2, &[vec![store(0), WFENCE, store(1)]]);
     assert_eq!(buffers_at(&tso, 2), set_of(&[X, empty]));
-    let in_order: &[u8] = &[2, 0, 1, 1, 1];
+    let in_order: &[u8] = &[2, 0, 0, 1, 1, 0, 1];
     assert_eq!(buffers_at(&tso, 3), set_of(&[in_order, Y, empty]));
 }
 
@@ -1032,11 +1128,21 @@ fn a_load_takes_the_newest_own_store_across_groups() {
             &file(memory, &[0, 0, 9], slice::from_ref(&program), 0, &goal),
             2,
         );
-        assert_eq!(run(&job, 640).answer[0], 1, "{memory:?}");
+        assert_eq!(run(&job, BENCH_SLOTS).answer[0], 1, "{memory:?}");
         // Whatever has landed by then, the first is not loaded: the value of the first clause is 1 now.
         let older = with_byte(&job, job.len() - 13, 1);
-        assert_eq!(run(&older, 640).answer[0], 2, "{memory:?}");
+        assert_eq!(run(&older, BENCH_SLOTS).answer[0], 2, "{memory:?}");
     }
+}
+
+/// Place and register 0 of thread 0, and variable 0, of the first states.
+fn places_and_values(run: &Run, count: usize) -> Vec<[Value; 3]> {
+    let slots = run.table.chunks_exact(SLOT_BYTES).take(count);
+    let of = |slot: &[u8]| {
+        let [register, variable] = [register_at(0, 0), variable_at(0)].map(|at| value(slot, at));
+        [slot[0].into(), register, variable]
+    };
+    slots.map(of).collect()
 }
 
 #[test]
@@ -1050,11 +1156,8 @@ fn a_cmpx_takes_or_does_not() {
         );
         let run = run(&job, 9);
         assert_eq!(run.answer, [1, 3, 4, 0]);
-        let states: Vec<[u8; 3]> = run.table[..4 * SLOT_BYTES]
-            .chunks_exact(SLOT_BYTES)
-            .map(|slot| [slot[0], slot[4], slot[20]])
-            .collect();
-        assert_eq!(states, [[0, 0, 0], [1, 0, 5], [2, 5, 5], [3, 5, 9]]);
+        let states = [[0, 0, 0], [1, 0, 5], [2, 5, 5], [3, 5, 9]];
+        assert_eq!(places_and_values(&run, 4), states);
     }
 }
 
@@ -1086,9 +1189,9 @@ fn a_cmpx_gives_a_lock_to_one_alone() {
     for memory in every_memory() {
         let both = [thread.clone(), thread.clone()];
         let job = in_version(&file(memory, &[0], &both, 0, &goal), 2);
-        assert_eq!(run(&job, 640).answer[0], 2, "{memory:?}");
+        assert_eq!(run(&job, BENCH_SLOTS).answer[0], 2, "{memory:?}");
         let one = in_version(&file(memory, &[0], &both, 0, &goal[..1]), 2);
-        assert_eq!(run(&one, 640).answer[..2], [1, 3], "{memory:?}");
+        assert_eq!(run(&one, BENCH_SLOTS).answer[..2], [1, 3], "{memory:?}");
     }
 }
 
@@ -1110,4 +1213,223 @@ fn for_the_fence_check_cmpx_is_as_xchg_and_wfence_as_nothing() {
         assert_eq!(check(&[STORE, neither]), fenced);
     }
     assert_eq!(check(&[STORE, WFENCE, compare_exchange(1), LOAD]), fenced);
+}
+
+// ---- version 3: values of two bytes ----
+
+/// One thread of these instructions and one variable that holds `initial`, asked for these clauses.
+fn wide(memory: Memory, initial: Value, program: &[Item], clauses: &[Item]) -> Vec<u8> {
+    file_of_three(memory, &[initial], &[program.to_vec()], 0, clauses)
+}
+
+/// What all three answer to a job that is refused.
+fn assert_refused(job: &[u8], [number, offset]: [u64; 2]) {
+    let refusal = [0, number, offset, 0];
+    let run = run(job, 3);
+    assert_eq!(run.answer, refusal, "{job:?}");
+    assert!(run.wrote_no_more_than(0, 0));
+    assert_eq!(replay(job, &[0]), refusal, "{job:?}");
+    assert_eq!(fences(job), refusal, "{job:?}");
+}
+
+#[test]
+fn the_bench_list_has_the_same_answers_in_version_3() {
+    // P5 alone has a sum that passes 255.
+    let jobs = (1..).zip(accepted_list()).filter(|(p, _)| *p != 5);
+    for (_, job) in jobs {
+        for slots in [1, 5, BENCH_SLOTS] {
+            let [one, three] = [&job, &in_three(&job)].map(|job| run(job, slots));
+            assert_eq!(one.answer, three.answer);
+            assert_eq!(one.table, three.table);
+            assert_eq!(one.links, three.links);
+            assert_eq!(one.schedule, three.schedule);
+        }
+        for schedule in [&[0, 0, 1, 1][..], &[0, 0, 1, 1, 4, 13], &[0, 4], &[36], &[]] {
+            for of_three in [in_three(&job), raised(&job)] {
+                assert_eq!(replay(&job, schedule), replay(&of_three, schedule));
+            }
+        }
+        assert_eq!(fences(&job), fences(&in_three(&job)));
+    }
+}
+
+#[test]
+fn every_value_has_its_two_bytes_in_a_slot() {
+    // Thread 1 sets all of its registers and has two stores pending at its end; thread 0 has ended at once.
+    let program = vec![
+        item(1, 0, 0, 0x0102),
+        item(1, 1, 0, 0x0300),
+        item(1, 2, 0, 0x0004),
+        item(1, 3, 0, 0xFFFF),
+        item(5, 0, 0, 0x0506),
+        item(4, 1, 1, 0),
+    ];
+    let programs = [vec![], program];
+    let at_end = item(1, 1, 0, 6);
+    let asking = |model, clause| {
+        let goal = [at_end, clause];
+        file_of_three([model, 2], &[0x0700, 0x0809], &programs, 0, &goal)
+    };
+    for model in [TSO, PSO] {
+        let job = asking(model, item(3, 0, 0, 0x0700));
+        let run = run(&job, 20);
+        assert_eq!(run.answer[..2], [1, 6]);
+        let mut slots = run.table.chunks_exact(SLOT_BYTES);
+        let mut expected = vec![0; SLOT_BYTES];
+        expected[1] = 6;
+        put(&mut expected, 12, &[1, 2, 3, 0, 0, 4, 255, 255]);
+        put(&mut expected, 36, &[7, 0, 8, 9]);
+        put(&mut expected, 77, &[2, 0, 5, 6, 1, 3, 0]);
+        assert_eq!(slots.find(|slot| slot[1] == 6), Some(&expected[..]));
+        // A byte less, a byte more, and both in the wrong order: that is another value.
+        for clause in [
+            item(2, 1, 0, 0x0002),
+            item(2, 1, 0, 0x0100),
+            item(2, 1, 0, 0x0201),
+            item(2, 1, 1, 0x0003),
+            item(2, 1, 2, 0x0104),
+            item(2, 1, 3, 0x00FF),
+            item(3, 1, 0, 0x0009),
+        ] {
+            let other = asking(model, clause);
+            assert_eq!(replay(&other, &[1; 6]), FALLS_SHORT, "{clause:?}");
+        }
+        assert_eq!(replay(&job, &[1; 6]), REACHES);
+    }
+}
+
+#[test]
+fn add_works_modulo_65536_in_version_3_and_modulo_256_in_the_others() {
+    for (augend, addend, sum) in [
+        (65_535, 1, 0),
+        (255, 1, 256),
+        (0x00FF, 0xFF01, 0),
+        (0x0100, 0xFF00, 0),
+        (65_535, 65_535, 65_534),
+        (0x1234, 0x0FFF, 0x2233),
+        (32_768, 32_767, 65_535),
+    ] {
+        let program = [item(1, 0, 0, augend), item(2, 0, 0, addend)];
+        let goal = [item(1, 0, 0, 2), item(2, 0, 0, sum)];
+        let run = run(&wide(SC, 0, &program, &goal), 9);
+        assert_eq!(run.answer, [1, 2, 3, 0], "{augend} plus {addend}");
+        let states = [[0, 0, 0], [1, augend, 0], [2, sum, 0]];
+        assert_eq!(places_and_values(&run, 3), states);
+    }
+    for version in [1, 2] {
+        let program = vec![[1, 0, 0, 255], [2, 0, 0, 1], [2, 0, 0, 255], [2, 0, 0, 255]];
+        let goal = [[1, 0, 0, 4], [2, 0, 0, 254]];
+        let job = in_version(&file(SC, &[0], &[program], 0, &goal), version);
+        let run = run(&job, 9);
+        assert_eq!(run.answer, [1, 4, 5, 0]);
+        let states = [[0, 0, 0], [1, 255, 0], [2, 0, 0], [3, 255, 0], [4, 254, 0]];
+        assert_eq!(places_and_values(&run, 5), states);
+    }
+}
+
+#[test]
+fn jeq_cmpx_and_clauses_look_at_both_bytes() {
+    let held = 0x0102;
+    for (other, is_same) in [
+        (0x0102, true),
+        (0x0002, false),
+        (0x0100, false),
+        (0x0202, false),
+        (0x0103, false),
+        (0x0201, false),
+    ] {
+        let set = item(1, 0, 0, held);
+        // JEQ: to the end if it jumps, and else round for ever.
+        let jumping = [set, item(8, 0, 3, other), item(9, 0, 1, 0)];
+        let answer = run(&wide(SC, 0, &jumping, &[item(1, 0, 0, 3)]), 9).answer;
+        let expected = if is_same { [1, 2, 3, 0] } else { [2, 3, 0, 0] };
+        assert_eq!(answer, expected, "JEQ with {other}");
+        // CMPX: memory holds the other value, and another one still if that is the same.
+        let taking = [set, item(10, 0, 0, 0x0700)];
+        let run = run(&wide(SC, other, &taking, &[item(1, 0, 0, 2)]), 9);
+        let memory = if is_same { 0x0700 } else { other };
+        let states = [[0, 0, other], [1, held, other], [2, other, memory]];
+        assert_eq!(places_and_values(&run, 3), states, "CMPX with {other}");
+        // Clauses of a register and of memory.
+        let expected = if is_same { REACHES } else { FALLS_SHORT };
+        let asks_register = wide(SC, 0, &[set], &[item(2, 0, 0, other)]);
+        assert_eq!(replay(&asks_register, &[0]), expected, "{other}");
+        let stores = [item(5, 0, 0, held)];
+        let asks_memory = wide(SC, 0, &stores, &[item(3, 0, 0, other)]);
+        assert_eq!(replay(&asks_memory, &[0]), expected, "{other}");
+    }
+}
+
+#[test]
+fn loads_stores_and_exchanges_move_both_bytes() {
+    for model in [TSO, PSO] {
+        // Of its own pending stores, the newest; then it lands, and the exchange waits for that.
+        let program = [
+            item(5, 0, 0, 0x1234),
+            item(5, 0, 0, 0x5634),
+            item(3, 0, 0, 0),
+            item(7, 1, 0, 0),
+            item(4, 0, 0, 0),
+        ];
+        let goal = [
+            item(2, 0, 0, 0x5634),
+            item(2, 0, 1, 0x5634),
+            item(3, 0, 0, 0x5634),
+        ];
+        let job = wide([model, 2], 0xABCD, &program, &goal);
+        let lands = flush(0, 0);
+        let schedule = [0, 0, 0, lands, lands, 0, 0, lands];
+        assert_eq!(replay(&job, &schedule), REACHES);
+        assert_eq!(replay(&job, &schedule[..7]), FALLS_SHORT);
+        assert_eq!(run(&job, BENCH_SLOTS).answer[..2], [1, 8]);
+    }
+}
+
+#[test]
+fn what_version_3_refuses_and_where() {
+    for (job, refusal) in refused_of_three() {
+        assert_refused(&job, refusal);
+    }
+    // Worked by hand. Head and one value take 9 bytes, n one; flag and K stand behind the instruction, and then the clause.
+    let with = |instruction| wide([TSO, 1], 0x0100, &[instruction], &[item(1, 0, 0, 1)]);
+    let good = with(item(3, 0, 0, 0));
+    assert_eq!(good.len(), 22);
+    assert_eq!(fences(&good), [1, 0, 0, 0]);
+    let cut = |count: usize| settled(good[..count].to_vec());
+    // Half a value, and four bytes of an instruction and of a clause.
+    assert_refused(&cut(8), [6, 7]);
+    assert_refused(&cut(14), [6, 10]);
+    assert_refused(&cut(21), [6, 17]);
+    // A byte that must be 0 where k stands: the high one, the low one, both.
+    for op in [3, 4, 6, 7, 9, 11] {
+        assert_ne!(fences(&with(item(op, 0, 0, 0)))[0], 0);
+        for k in [0x0100, 0x8000, 0x0001, 0x0101] {
+            assert_refused(&with(item(op, 0, 0, k)), [4, 10]);
+        }
+    }
+    // A place clause above n, and one of 256 plus a good place.
+    for place in [2, 255, 256, 257, 0xFF00, 0xFF01, 0xFFFF] {
+        let job = wide([TSO, 1], 0, &[item(6, 0, 0, 0)], &[item(1, 0, 0, place)]);
+        assert_refused(&job, [5, 17]);
+    }
+    // A jump's target stays in one byte, whatever k is.
+    for (target, k) in [(1, 0), (1, 0x0100), (0, 0xFFFF)] {
+        assert_ne!(fences(&with(item(8, 0, target, k)))[0], 0);
+        assert_refused(&with(item(8, 0, target + 2, k)), [4, 10]);
+    }
+}
+
+#[test]
+fn k_is_65535_at_most_in_every_instruction_that_has_it() {
+    for instruction in [
+        item(1, 3, 0, 65_535),
+        item(2, 3, 0, 65_535),
+        item(5, 0, 0, 65_535),
+        item(8, 3, 1, 65_535),
+        item(10, 3, 0, 65_535),
+    ] {
+        let job = wide(SC, 65_535, &[instruction], &[item(1, 0, 0, 1)]);
+        assert_eq!(replay(&job, &[0]), REACHES, "{instruction:?}");
+        assert_eq!(run(&job, 2).answer, [1, 1, 2, 0], "{instruction:?}");
+    }
 }

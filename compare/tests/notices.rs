@@ -3,23 +3,30 @@
 use compare::blank::{self, Blank};
 use compare::call::{Call, Checker, Kind, Second};
 use compare::hold::{hold, hold_versions};
-use compare::run::{run, Plan, Report};
-use compare::{groups, jobs};
+use compare::lent::Lent;
+use compare::pieces::{decides_alone, PIECES};
+use compare::run::{run, Counts, Plan, Report};
+use compare::slot::LAYOUT;
+use compare::tally::Tally;
+use compare::{groups, jobs, lengths, sums};
 use second::dead_code::{fences_shut, jeq_always_jumps, jeq_never_jumps, live_if, never_back};
 use second::fences::{live_places, open_run_or_not, OpenPair};
-use second::job::{Instruction, Model};
-use second::listed::{in_version, with_byte, P1};
+use second::job::{item, longest_file, width, Clause, Instruction, Item, Model, Value};
+use second::listed::{in_version, settled, with_byte, Parts, P1};
 use second::long_threads::{
     ends_high, of_job, FULL_SIZE, HIGH_END, HIGH_GOAL, LONG_THREAD, ONE_TOO_MANY,
 };
-use second::machine::{reason, Reason, State, Step, REASONS, SLOT_BYTES};
+use second::machine::{reason, step, Reason, State, Step, Thread, REASONS, SLOT_BYTES};
 use second::random::{Random, Sizes};
 use second::replay::{follow, follow_until_stuck};
-use second::version_two::{self, is_compare_exchange, is_wfence};
-use second::version_two_jobs::WFENCE;
+use second::version_three::{self, WIDE_CLAUSE, WIDE_K};
+use second::version_three_jobs::{FENCE, WFENCE};
+use second::version_two::{self, is_compare_exchange, is_wfence, Searched};
 use second::{dead_code, decode, long_threads, reasons, Job, Refusal};
 use std::collections::BTreeSet;
 use std::ops::Range;
+use std::rc::Rc;
+use std::sync::Mutex;
 
 /// Answers as the second checker does, and then spoils what it left.
 struct Spoiling<F>(F);
@@ -44,6 +51,18 @@ fn report_from(library: &dyn Checker, first: u64, jobs: u64, threads: usize) -> 
         threads,
     };
     run(library, plan, &|_, _| {})
+}
+
+/// Jobs that every class of the summary is met in, but for one.
+const MANY: u64 = 8000;
+
+/// The tally of so many, which several tests look at.
+fn many() -> Tally {
+    static TALLY: Mutex<Option<Tally>> = Mutex::new(None);
+    let mut tally = TALLY.lock().expect("no test fails while it holds this");
+    tally
+        .get_or_insert_with(|| report(&Second, MANY, 2).tally)
+        .clone()
 }
 
 /// What a run of a few jobs says first about a stand-in that spoils its calls so.
@@ -217,34 +236,41 @@ fn a_missing_k_taken_for_a_blank_goal() {
 /// Jobs enough to meet what is rare even among long threads.
 const FOR_LONG_THREADS: u64 = 2000;
 
-const ADD: [u8; 4] = [2, 0, 0, 0];
+const ADD: Item = item(2, 0, 0, 0);
 
 /// An accepted job with other instructions; `change` gets each with its place.
-fn with_instructions(job: &[u8], change: impl Fn(usize, [u8; 4]) -> [u8; 4]) -> Vec<u8> {
-    let mut changed = job.to_vec();
-    for (_, instructions) in threads(job) {
-        for (place, at) in instructions.step_by(4).enumerate() {
-            let quad = [job[at], job[at + 1], job[at + 2], job[at + 3]];
-            changed[at..at + 4].copy_from_slice(&change(place, quad));
+fn with_instructions(job: &[u8], change: impl Fn(usize, Item) -> Item) -> Vec<u8> {
+    let mut parts = Parts::of(job);
+    for program in &mut parts.programs {
+        for (place, instruction) in program.iter_mut().enumerate() {
+            *instruction = change(place, *instruction);
         }
     }
-    changed
+    parts.file()
 }
 
 /// Where n and the instructions of each thread of an accepted job stand.
 fn threads(job: &[u8]) -> Vec<(usize, Range<usize>)> {
-    let mut at = 7 + usize::from(job[6]);
+    let width = width(job[2]);
+    let mut at = 7 + width.bytes() * usize::from(job[6]);
     let mut threads = Vec::new();
     for _ in 0..job[5] {
-        let end = at + 1 + 4 * usize::from(job[at]);
+        let end = at + 1 + width.item_bytes() * usize::from(job[at]);
         threads.push((at, at + 1..end));
         at = end;
     }
     threads
 }
 
+/// Where each instruction of an accepted job begins.
+fn instructions(job: &[u8]) -> impl Iterator<Item = usize> {
+    let bytes = width(job[2]).item_bytes();
+    let threads = threads(job).into_iter();
+    threads.flat_map(move |(_, instructions)| instructions.step_by(bytes))
+}
+
 /// A fence check that reads the instructions of an accepted job wrongly.
-fn misreading(change: impl Fn(usize, [u8; 4]) -> [u8; 4] + Sync) -> impl Fn(&mut Call) + Sync {
+fn misreading(change: impl Fn(usize, Item) -> Item + Sync) -> impl Fn(&mut Call) + Sync {
     move |call| {
         if call.kind == Kind::Fences && call.words()[0] != 0 {
             let read = with_instructions(call.job.part(), &change);
@@ -255,19 +281,19 @@ fn misreading(change: impl Fn(usize, [u8; 4]) -> [u8; 4] + Sync) -> impl Fn(&mut
 
 #[test]
 fn a_fence_check_that_errs_only_above_place_32() {
-    let store = |quad: [u8; 4]| matches!(quad[0], 4 | 5);
-    let load = |quad: [u8; 4]| quad[0] == 3;
-    let jump = |quad: [u8; 4]| matches!(quad[0], 8 | 9);
-    let barrier = |quad: [u8; 4]| matches!(quad[0], 6 | 7);
-    let overlooked: [fn([u8; 4]) -> bool; 4] = [store, load, jump, barrier];
+    let store = |op: u8| matches!(op, 4 | 5);
+    let load = |op: u8| op == 3;
+    let jump = |op: u8| matches!(op, 8 | 9);
+    let barrier = |op: u8| matches!(op, 6 | 7);
+    let overlooked: [fn(u8) -> bool; 4] = [store, load, jump, barrier];
     for is_overlooked in overlooked {
         first_difference_of(
             FOR_LONG_THREADS,
-            misreading(move |place, quad| {
-                if place > 32 && is_overlooked(quad) {
+            misreading(move |place, there| {
+                if place > 32 && is_overlooked(there.first) {
                     ADD
                 } else {
-                    quad
+                    there
                 }
             }),
         );
@@ -275,11 +301,11 @@ fn a_fence_check_that_errs_only_above_place_32() {
     // A fence seen where there is none.
     first_difference_of(
         FOR_LONG_THREADS,
-        misreading(|place, quad| {
-            if place > 32 && quad[0] < 3 {
-                [6, 0, 0, 0]
+        misreading(|place, there| {
+            if place > 32 && there.first < 3 {
+                FENCE
             } else {
-                quad
+                there
             }
         }),
     );
@@ -305,11 +331,11 @@ fn a_fence_check_that_errs_only_at_place_63() {
     for overlooked in [3, 8, 9] {
         first_difference_of(
             FOR_LONG_THREADS,
-            misreading(move |place, quad| {
-                if place == 63 && quad[0] == overlooked {
+            misreading(move |place, there| {
+                if place == 63 && there.first == overlooked {
                     ADD
                 } else {
-                    quad
+                    there
                 }
             }),
         );
@@ -318,9 +344,9 @@ fn a_fence_check_that_errs_only_at_place_63() {
     for (target, met) in [(63, 64), (64, 0)] {
         first_difference_of(
             FOR_LONG_THREADS,
-            misreading(move |_, quad| match quad {
-                [op @ (8 | 9), r, p, k] if p == target => [op, r, met, k],
-                _ => quad,
+            misreading(move |_, there| match there.first {
+                8 | 9 if there.b == target => Item { b: met, ..there },
+                _ => there,
             }),
         );
     }
@@ -460,7 +486,8 @@ fn what_is_missing_told_before_a_thread_of_65() {
     first_difference_of(FOR_LONG_THREADS, |call| {
         if of_job(call.job.part()).contains(&ONE_TOO_MANY) {
             let n = call.words()[2];
-            let whole = n as usize + 1 + 4 * 65;
+            let bytes = width(call.job.part()[2]).item_bytes();
+            let whole = n as usize + 1 + bytes * 65;
             if whole > call.job.count() {
                 set_answer(call, [0, 6, n + 1, 0]);
             }
@@ -497,10 +524,14 @@ fn a_decoder_that_refuses_a_long_thread() {
 
 #[test]
 fn a_decoder_that_refuses_a_file_over_597_bytes() {
-    first_difference_of(
-        FOR_LONG_THREADS,
-        refusing(1, |job| (job.len() > 597).then_some(0)),
-    );
+    for version in [1, 2, 3] {
+        first_difference_of(
+            FOR_LONG_THREADS,
+            refusing(1, move |job| {
+                (job[2] == version && job.len() > 597).then_some(0)
+            }),
+        );
+    }
 }
 
 #[test]
@@ -509,13 +540,17 @@ fn a_decoder_that_refuses_a_jump_to_place_64() {
         first_difference_of(
             FOR_LONG_THREADS,
             refusing(4, move |job| {
-                let mut instructions = threads(job)
-                    .into_iter()
-                    .flat_map(|(_, bytes)| bytes.step_by(4));
-                instructions.find(|&at| job[at] == op && job[at + 2] == 64)
+                instructions(job).find(|&at| job[at] == op && job[at + 2] == 64)
             }),
         );
     }
+}
+
+/// Where each clause of an accepted job begins.
+fn clauses(job: &[u8]) -> impl Iterator<Item = usize> {
+    let threads = threads(job);
+    let flag = threads.last().map_or(0, |(_, thread)| thread.end);
+    (flag + 2..job.len()).step_by(width(job[2]).item_bytes())
 }
 
 #[test]
@@ -523,9 +558,9 @@ fn a_decoder_that_refuses_place_64_in_a_clause() {
     first_difference_of(
         FOR_LONG_THREADS,
         refusing(5, |job| {
-            let first = threads(job).last()?.1.end + 2;
-            let mut clauses = (first..job.len()).step_by(4);
-            clauses.find(|&at| job[at] == 1 && job[at + 3] == 64)
+            let at_64 = |clause: &Item| clause.first == 1 && clause.k == 64;
+            let number = Parts::of(job).clauses.iter().position(at_64)?;
+            clauses(job).nth(number)
         }),
     );
 }
@@ -1034,8 +1069,11 @@ fn a_fence_check_that_always_says_the_same() {
 
 // ---- version 2 ----
 
-/// Jobs enough to meet what is rare even in version 2.
-const FOR_VERSION_TWO: u64 = 2000;
+/// Jobs enough to meet what is rare even in one of the versions.
+const FOR_VERSIONS: u64 = 4000;
+
+/// Those that have CMPX and WFENCE.
+const NEWER: [u8; 2] = [2, 3];
 
 /// The version that an accepted or refused file says.
 fn version(call: &Call) -> Option<u8> {
@@ -1050,30 +1088,31 @@ struct Misreading<F> {
 
 impl<F: Fn(&[u8]) -> Vec<u8> + Sync> Checker for Misreading<F> {
     fn run(&self, call: &mut Call) {
-        let job = call.job.part().to_vec();
+        let job = call.job.clone();
         if call.kind == self.kind {
-            call.job.part_mut().copy_from_slice(&(self.read)(&job));
+            let read = (self.read)(job.part());
+            call.job = Lent::holding(&mut Random::new(0), &read);
         }
         Second.run(call);
-        call.job.part_mut().copy_from_slice(&job);
+        call.job = job;
     }
 }
 
 fn notices_misreading(kind: Kind, read: impl Fn(&[u8]) -> Vec<u8> + Sync) -> String {
     let liar = Misreading { kind, read };
-    let mut parts = (0..FOR_VERSION_TWO).step_by(100);
+    let mut parts = (0..FOR_VERSIONS).step_by(100);
     let found = parts.find_map(|first| report_from(&liar, first, 100, 1).kept.into_iter().next());
     found.expect("nothing was noticed").text
 }
 
-/// Accepted jobs of version 2 with another instruction in place of each of this operation.
-fn reading(operation: u8, other: impl Fn([u8; 4]) -> [u8; 4]) -> impl Fn(&[u8]) -> Vec<u8> {
+/// Accepted jobs of this version with another instruction in place of each of this operation.
+fn reading(version: u8, operation: u8, other: impl Fn(Item) -> Item) -> impl Fn(&[u8]) -> Vec<u8> {
     move |job| match decode(job) {
-        Ok(accepted) if accepted.version == 2 => with_instructions(job, |_, quad| {
-            if quad[0] == operation {
-                other(quad)
+        Ok(accepted) if accepted.version == version => with_instructions(job, |_, there| {
+            if there.first == operation {
+                other(there)
             } else {
-                quad
+                there
             }
         }),
         _ => job.to_vec(),
@@ -1092,9 +1131,8 @@ fn a_stand_in_that_reads_what_is_there_has_no_difference() {
 }
 
 #[test]
-fn a_decoder_that_knows_one_version_only() {
-    for known in [1, 2] {
-        let refused = 3 - known;
+fn a_decoder_that_does_not_know_a_version() {
+    for refused in [1, 2, 3] {
         let text = first_difference(refusing(2, move |job| (job[2] == refused).then_some(2)));
         assert!(text.contains("answer: first difference at"), "{text}");
     }
@@ -1103,8 +1141,8 @@ fn a_decoder_that_knows_one_version_only() {
 #[test]
 fn a_version_that_there_is_not_and_one_of_the_three_accepts() {
     for kind in EACH_KIND {
-        // Taken for either version, as a decoder that does not look would.
-        for taken_for in [1, 2] {
+        // Taken for one of the versions, as a decoder that does not look would.
+        for taken_for in [1, 2, 3] {
             notices_misreading(kind, |job| match decode(job) {
                 Err(Refusal { number: 2, .. }) => in_version(job, taken_for),
                 _ => job.to_vec(),
@@ -1128,15 +1166,13 @@ fn an_operation_of_version_2_that_version_1_accepts() {
 }
 
 #[test]
-fn an_operation_of_version_2_that_is_refused_there() {
-    for operation in [10, 11] {
+fn an_operation_of_versions_2_and_3_that_is_refused_there() {
+    for (version, operation) in [(2, 10), (2, 11), (3, 10), (3, 11)] {
         first_difference_of(
-            FOR_VERSION_TWO,
+            FOR_VERSIONS,
             refusing(4, move |job| {
-                let mut instructions = threads(job)
-                    .into_iter()
-                    .flat_map(|(_, bytes)| bytes.step_by(4));
-                instructions.find(|&at| job[at] == operation)
+                let is_new = |&at: &usize| job[2] == version && job[at] == operation;
+                instructions(job).find(is_new)
             }),
         );
     }
@@ -1145,9 +1181,11 @@ fn an_operation_of_version_2_that_is_refused_there() {
 #[test]
 fn a_bad_operand_of_cmpx_or_wfence_that_is_accepted() {
     // Register and variable of CMPX, and each byte of WFENCE, taken for 0.
-    for (operation, part) in [(10, 1), (10, 2), (11, 1), (11, 2), (11, 3)] {
-        notices_misreading(EACH_KIND[part - 1], |job| match decode(job) {
-            Err(Refusal { number: 4, offset }) if job[2] == 2 && job[offset] == operation => {
+    let in_two = [(10, 1), (10, 2), (11, 1), (11, 2), (11, 3)].map(|operand| (2, operand));
+    let in_three = [(10, 1), (11, 3), (11, 4)].map(|operand| (3, operand));
+    for (version, (operation, part)) in in_two.into_iter().chain(in_three) {
+        notices_misreading(EACH_KIND[part % 3], |job| match decode(job) {
+            Err(Refusal { number: 4, offset }) if job[2] == version && job[offset] == operation => {
                 with_byte(job, offset + part, 0)
             }
             _ => job.to_vec(),
@@ -1157,25 +1195,32 @@ fn a_bad_operand_of_cmpx_or_wfence_that_is_accepted() {
 
 #[test]
 fn a_wfence_that_does_nothing_or_waits() {
-    for kind in [Kind::Search, Kind::Replay] {
-        for other in [ADD, [6, 0, 0, 0]] {
-            notices_misreading(kind, reading(11, move |_| other));
+    for version in NEWER {
+        for kind in [Kind::Search, Kind::Replay] {
+            for other in [ADD, FENCE] {
+                notices_misreading(kind, reading(version, 11, move |_| other));
+            }
         }
     }
 }
 
+const STORE: Item = item(5, 0, 0, 1);
+const LOAD: Item = item(3, 0, 0, 0);
+
 #[test]
 fn a_cmpx_taken_for_something_else() {
-    for kind in [Kind::Search, Kind::Replay] {
-        // It always writes, and what the register held; never; the register stays; it only waits.
-        let others: [fn([u8; 4]) -> [u8; 4]; 4] = [
-            |[_, register, variable, _]| [7, register, variable, 0],
-            |[_, register, variable, _]| [3, register, variable, 0],
-            |[_, _, variable, value]| [5, 0, variable, value],
-            |_| [6, 0, 0, 0],
-        ];
-        for other in others {
-            notices_misreading(kind, reading(10, other));
+    // It always writes, and what the register held; never; the register stays; it only waits.
+    let others: [fn(Item) -> Item; 4] = [
+        |cmpx| item(7, cmpx.a, cmpx.b, 0),
+        |cmpx| item(3, cmpx.a, cmpx.b, 0),
+        |cmpx| item(5, 0, cmpx.b, cmpx.k),
+        |_| FENCE,
+    ];
+    for version in NEWER {
+        for kind in [Kind::Search, Kind::Replay] {
+            for other in others {
+                notices_misreading(kind, reading(version, 10, other));
+            }
         }
     }
 }
@@ -1183,46 +1228,60 @@ fn a_cmpx_taken_for_something_else() {
 #[test]
 fn a_fence_check_that_takes_wfence_or_cmpx_for_something_else() {
     let kind = Kind::Fences;
-    // WFENCE for a fence, for a store and for a load.
-    for other in [[6, 0, 0, 0], [5, 0, 0, 1], [3, 0, 0, 0]] {
-        let text = notices_misreading(kind, reading(11, move |_| other));
-        assert!(text.contains("fence check"), "{text}");
-    }
-    // CMPX for no fence, for a store and for a load.
-    for other in [ADD, WFENCE, [5, 0, 0, 1], [3, 0, 0, 0]] {
-        notices_misreading(kind, reading(10, move |_| other));
+    for version in NEWER {
+        // WFENCE for a fence, for a store and for a load.
+        for other in [FENCE, STORE, LOAD] {
+            let text = notices_misreading(kind, reading(version, 11, move |_| other));
+            assert!(text.contains("fence check"), "{text}");
+        }
+        // CMPX for no fence, for a store and for a load.
+        for other in [ADD, WFENCE, STORE, LOAD] {
+            notices_misreading(kind, reading(version, 10, move |_| other));
+        }
     }
 }
 
-/// The buffers of all counted slots of a search, under PSO and in version 2, are changed so.
-fn notices_buffers(change: impl Fn(&mut [u8]) + Sync) {
-    let text = first_difference_of(FOR_VERSION_TWO, |call| {
+/// All counted slots of a search in one of these versions are changed so.
+fn notices_slots(versions: &[u8], change: impl Fn(&mut [u8]) + Sync) {
+    let text = first_difference_of(FOR_VERSIONS, |call| {
         if let (Kind::Search, Ok(job)) = (call.kind, decode(call.job.part())) {
-            if job.version == 2 && job.model == Model::Pso {
+            if versions.contains(&job.version) {
                 let counted = slots(call) * SLOT_BYTES;
-                let table = call.table.part_mut()[..counted].chunks_exact_mut(SLOT_BYTES);
-                let buffers = table.flat_map(|slot| slot[28..].chunks_exact_mut(17));
-                buffers.for_each(&change);
+                let table = &mut call.table.part_mut()[..counted];
+                table.chunks_exact_mut(SLOT_BYTES).for_each(&change);
             }
         }
     });
     assert!(text.contains("table: first difference at"), "{text}");
 }
 
-/// Variable and value of each pending store, as they stand in a buffer.
-fn pairs(buffer: &mut [u8]) -> Vec<[u8; 2]> {
-    let count = usize::from(buffer[0] % 128);
-    let pairs = buffer[1..].chunks_exact(2).take(count);
-    pairs.map(|pair| [pair[0], pair[1]]).collect()
+/// The buffers of all these slots, in each version that has groups.
+fn notices_buffers(change: impl Fn(&mut [u8]) + Sync) {
+    for version in NEWER {
+        notices_slots(&[version], |slot| {
+            let buffers = slot[LAYOUT.buffers_at()..].chunks_exact_mut(LAYOUT.buffer_bytes());
+            buffers.for_each(&change);
+        });
+    }
 }
 
-fn put_pairs(buffer: &mut [u8], pairs: &[[u8; 2]]) {
-    buffer[1..1 + 2 * pairs.len()].copy_from_slice(&pairs.concat());
+/// Variable and value of each pending store, as they stand in a buffer.
+type Store = [u8; 3];
+
+fn stores(buffer: &[u8]) -> Vec<Store> {
+    let count = usize::from(buffer[0] % 128);
+    let stores = buffer[1..].chunks_exact(LAYOUT.store_bytes()).take(count);
+    stores.map(|store| [store[0], store[1], store[2]]).collect()
+}
+
+fn put_stores(buffer: &mut [u8], stores: &[Store]) {
+    let bytes = stores.concat();
+    buffer[1..1 + bytes.len()].copy_from_slice(&bytes);
 }
 
 #[test]
 fn a_slot_with_wrong_groups() {
-    let newest = |pairs: &[[u8; 2]]| pairs.last().map_or(0, |pair| pair[0] / 16);
+    let newest = |stores: &[Store]| stores.last().map_or(0, |store| store[0] / 16);
     // None; numbers that count the WFENCEs before; from the newest; from 1, as if they had not been renumbered.
     let numbered: [fn(u8, u8) -> u8; 4] = [
         |_, _| 0,
@@ -1232,19 +1291,19 @@ fn a_slot_with_wrong_groups() {
     ];
     for number in numbered {
         notices_buffers(|buffer| {
-            let mut pairs = pairs(buffer);
-            let newest = newest(&pairs);
-            for pair in &mut pairs {
-                pair[0] = pair[0] % 16 + 16 * number(pair[0] / 16, newest);
+            let mut stores = stores(buffer);
+            let newest = newest(&stores);
+            for store in &mut stores {
+                store[0] = store[0] % 16 + 16 * number(store[0] / 16, newest);
             }
-            put_pairs(buffer, &pairs);
+            put_stores(buffer, &stores);
         });
     }
     // By variable and then by group.
     notices_buffers(|buffer| {
-        let mut pairs = pairs(buffer);
-        pairs.sort_by_key(|pair| (pair[0] % 16, pair[0] / 16));
-        put_pairs(buffer, &pairs);
+        let mut stores = stores(buffer);
+        stores.sort_by_key(|store| (store[0] % 16, store[0] / 16));
+        put_stores(buffer, &stores);
     });
 }
 
@@ -1259,7 +1318,7 @@ fn a_slot_with_a_wrong_wfence() {
         }
     });
     notices_buffers(|buffer| {
-        let in_groups = pairs(buffer).iter().any(|pair| pair[0] >= 16);
+        let in_groups = stores(buffer).iter().any(|store| store[0] >= 16);
         if in_groups && buffer[0] < 128 {
             buffer[0] += 128;
         }
@@ -1291,56 +1350,78 @@ fn waiting_cmpx(stuck: &Stuck) -> Option<bool> {
 
 #[test]
 fn a_cmpx_that_does_not_wait() {
-    // Whatever it would do, and only if it would not take.
-    let waits: [fn(bool) -> bool; 2] = [|_| true, |takes| !takes];
-    for does_not_wait in waits {
-        first_difference_of(
-            FOR_VERSION_TWO,
-            where_stuck(move |stuck| {
-                let takes = waiting_cmpx(stuck)?;
-                does_not_wait(takes).then_some([2, 0, 0, 0])
+    for version in NEWER {
+        // Whatever it would do, and only if it would not take.
+        let waits: [fn(bool) -> bool; 2] = [|_| true, |takes| !takes];
+        for does_not_wait in waits {
+            first_difference_of(
+                FOR_VERSIONS,
+                where_stuck(move |stuck| {
+                    let takes = waiting_cmpx(stuck)?;
+                    let is_taken = stuck.job.version == version && does_not_wait(takes);
+                    is_taken.then_some([2, 0, 0, 0])
+                }),
+            );
+        }
+        // It waits for room, not for an empty buffer.
+        let text = first_difference_of(
+            FOR_VERSIONS,
+            saying(move |stuck| {
+                let waits = waiting_cmpx(stuck).filter(|_| stuck.job.version == version);
+                waits.map(|_| 3)
             }),
         );
+        assert!(text.contains("library 3, second checker 4"), "{text}");
     }
-    // It waits for room, not for an empty buffer.
-    let text = first_difference_of(
-        FOR_VERSION_TWO,
-        saying(|stuck| waiting_cmpx(stuck).map(|_| 3)),
-    );
-    assert!(text.contains("library 3, second checker 4"), "{text}");
+}
+
+/// A replay that errs only where it is in this class, if it is of this version.
+fn notices_replays_of(version: u8, class: &'static str) {
+    first_difference_of(FOR_VERSIONS, |call| {
+        if call.kind == Kind::Replay && call.words()[0] != 0 {
+            let [job, schedule] = [call.job.part(), call.schedule.part()];
+            let met = match version {
+                3 => version_three::of_replay(job, schedule),
+                _ => version_two::of_replay_in(version, job, schedule),
+            };
+            if met.contains(&class) {
+                set_answer(call, [3, 0, 7, 0]);
+            }
+        }
+    });
 }
 
 #[test]
 fn a_replay_that_is_stuck_where_a_wfence_runs() {
-    for class in [
-        version_two::ON_EMPTY,
-        version_two::ON_FULL,
-        version_two::IN_A_ROW,
-        version_two::DOES_NOTHING,
-    ] {
-        first_difference_of(FOR_VERSION_TWO, |call| {
-            if call.kind == Kind::Replay && call.words()[0] != 0 {
-                let met = version_two::of_replay(call.job.part(), call.schedule.part());
-                if met.contains(&class) {
-                    set_answer(call, [3, 0, 3, 0]);
-                }
-            }
-        });
+    for version in NEWER {
+        for class in [
+            version_two::ON_EMPTY,
+            version_two::ON_FULL,
+            version_two::IN_A_ROW,
+            version_two::DOES_NOTHING,
+        ] {
+            notices_replays_of(version, class);
+        }
     }
 }
 
 #[test]
 fn a_flush_of_a_later_group_that_is_taken() {
-    first_difference_of(
-        FOR_VERSION_TWO,
-        where_stuck(|stuck| stuck.is_by(Model::Pso, 6).then_some([2, 0, 0, 0])),
-    );
+    for version in NEWER {
+        first_difference_of(
+            FOR_VERSIONS,
+            where_stuck(move |stuck| {
+                let is_behind = stuck.job.version == version && stuck.is_by(Model::Pso, 6);
+                is_behind.then_some([2, 0, 0, 0])
+            }),
+        );
+    }
 }
 
 /// A search of P1 in this version, in room enough.
 fn search_of_p1(version: u8) -> Call {
     let sizes = Sizes {
-        table: 2200,
+        table: 3400,
         links: 25,
         schedule: 23,
     };
@@ -1371,8 +1452,8 @@ fn a_file_that_answers_otherwise_in_its_other_version() {
             "answer: first difference at 1: version 1 has 4, version 2 has 5",
         ),
         (
-            |call| call.table.part_mut()[97] = 9,
-            "table: first difference at 97: version 1 has 0, version 2 has 9",
+            |call| call.table.part_mut()[153] = 9,
+            "table: first difference at 153: version 1 has 0, version 2 has 9",
         ),
         (
             |call| call.links.part_mut()[1] = 9,
@@ -1423,25 +1504,537 @@ fn a_run_holds_files_to_themselves_in_the_other_version() {
     }
 }
 
+// ---- version 3: values of two bytes ----
+
+/// Whether it is an accepted job of version 3.
+fn is_wide(job: &[u8]) -> bool {
+    decode(job).map_or(false, |job| job.version == 3)
+}
+
+/// Accepted jobs of version 3 with other values, read so where `wanted` says, in searches and in replays.
+fn notices_values(wanted: fn(&mut Parts) -> Vec<&mut Value>, read: fn(Value) -> Value) {
+    for kind in [Kind::Search, Kind::Replay] {
+        notices_misreading(kind, |job| {
+            if !is_wide(job) {
+                return job.to_vec();
+            }
+            let mut parts = Parts::of(job);
+            for value in wanted(&mut parts) {
+                *value = read(*value);
+            }
+            parts.file()
+        });
+    }
+}
+
+/// A byte is lost, the other one is, or they change places.
+const MISREAD: [fn(Value) -> Value; 3] = [
+    |value| value & 0x00FF,
+    |value| value & 0xFF00,
+    Value::swap_bytes,
+];
+
+fn k_of(parts: &mut Parts, operation: u8) -> Vec<&mut Value> {
+    let instructions = parts.programs.iter_mut().flatten();
+    let of_it = instructions.filter(|instruction| instruction.first == operation);
+    of_it.map(|instruction| &mut instruction.k).collect()
+}
+
+fn asked_by(parts: &mut Parts, kind: u8) -> Vec<&mut Value> {
+    let clauses = parts.clauses.iter_mut();
+    let of_it = clauses.filter(|clause| clause.first == kind);
+    of_it.map(|clause| &mut clause.k).collect()
+}
+
+#[test]
+fn a_value_of_the_file_of_which_a_byte_is_lost() {
+    let each: [fn(&mut Parts) -> Vec<&mut Value>; 8] = [
+        |parts| parts.initial.iter_mut().collect(),
+        |parts| k_of(parts, 1),
+        |parts| k_of(parts, 2),
+        |parts| k_of(parts, 5),
+        |parts| k_of(parts, 8),
+        |parts| k_of(parts, 10),
+        |parts| asked_by(parts, 2),
+        |parts| asked_by(parts, 3),
+    ];
+    for wanted in each {
+        for read in MISREAD {
+            notices_values(wanted, read);
+        }
+    }
+    // A place has its bytes in the same order.
+    notices_values(|parts| asked_by(parts, 1), Value::swap_bytes);
+}
+
+/// Refused jobs of this class of `version_three` are read so instead.
+fn notices_accepted(class: &'static str, read: impl Fn(&[u8], usize) -> Vec<u8> + Sync) {
+    for kind in EACH_KIND {
+        notices_misreading(kind, |job| match decode(job) {
+            Err(refusal) if version_three::of_job(job).contains(&class) => {
+                read(job, refusal.offset)
+            }
+            _ => job.to_vec(),
+        });
+    }
+}
+
+/// Refused jobs of this class are refused by another number, or at another offset.
+fn notices_refused(class: &'static str, other: impl Fn(&[u8], u64) -> [u64; 2] + Sync) {
+    first_difference_of(FOR_VERSIONS, |call| {
+        let [_, _, offset, _] = call.words();
+        let job = call.job.part();
+        if version_three::of_job(job).contains(&class) {
+            let [number, offset] = other(job, offset);
+            set_answer(call, [0, number, offset, 0]);
+        }
+    });
+}
+
+#[test]
+fn a_byte_of_k_that_must_be_0_and_is_not_looked_at() {
+    for (class, byte) in [
+        (version_three::HIGH_NOT_0, 3),
+        (version_three::LOW_NOT_0, 4),
+        // A place of which the low byte alone is looked at.
+        (version_three::HIGH_PLACE, 3),
+    ] {
+        notices_accepted(class, |job, offset| with_byte(job, offset + byte, 0));
+    }
+    // One that there is not.
+    notices_accepted(version_three::LOW_PLACE, |job, offset| {
+        with_byte(job, offset + 4, 0)
+    });
+}
+
+#[test]
+fn half_a_value_that_is_taken_for_one_or_refused_elsewhere() {
+    // As if it was there, with 0 for its other byte: what is missing then begins behind it.
+    notices_refused(version_three::HALF_A_VALUE, |job, _| [6, job.len() as u64]);
+    notices_refused(version_three::HALF_A_VALUE, |_, offset| [6, offset + 2]);
+    // Where the values begin, as if they were one field.
+    notices_refused(version_three::HALF_A_VALUE, |_, _| [6, 7]);
+    notices_accepted(version_three::HALF_A_VALUE, |job, _| {
+        settled([job, &[0]].concat())
+    });
+}
+
+#[test]
+fn half_a_k_that_is_taken_for_one_or_judged_too_soon() {
+    notices_refused(version_three::HALF_A_K, |job, _| [6, job.len() as u64]);
+    // By what the item holds, before it is wholly there.
+    notices_refused(version_three::HALF_A_K, |_, offset| [4, offset]);
+    notices_refused(version_three::HALF_A_K, |_, offset| [5, offset]);
+    notices_accepted(version_three::HALF_A_K, |job, _| {
+        settled([job, &[0]].concat())
+    });
+}
+
+#[test]
+fn a_wrong_limit_of_length() {
+    // The limit of version 3 for all of them, and none at all: then something else is at fault.
+    for class in [
+        version_three::TOO_LONG_BEFORE,
+        version_three::TOO_LONG,
+        version_three::TOO_LONG_OTHERWISE,
+    ] {
+        notices_accepted(class, |job, _| {
+            settled(job[..longest_file(job[2])].to_vec())
+        });
+    }
+    // The version is judged first.
+    notices_refused(version_three::TOO_LONG_OTHERWISE, |_, _| [2, 2]);
+    // The limit of the others for version 3; one byte less; and for each version.
+    let [narrow, wide] = [1, 3].map(longest_file);
+    for (version, most) in [(3, narrow), (3, wide - 1), (2, narrow - 1), (1, narrow - 1)] {
+        first_difference_of(
+            FOR_VERSIONS,
+            refusing(1, move |job| {
+                (job[2] == version && job.len() > most).then_some(0)
+            }),
+        );
+    }
+}
+
+#[test]
+fn every_length_about_a_limit_is_compared() {
+    for class in lengths::OF_FILES {
+        for kind in EACH_KIND {
+            first_difference_of(FOR_VERSIONS, |call| {
+                if call.kind == kind && lengths::of_file(call.job.part()) == Some(class) {
+                    call.answer.part_mut()[3] += 1;
+                }
+            });
+        }
+    }
+}
+
+// ---- wide values at run ----
+
+/// Follows a schedule with steps that lead elsewhere: `wrong` gets job, state and step, and the state that it should lead to.
+fn replaying(wrong: impl Fn(&Job, &State, u8, State) -> State + Sync) -> impl Fn(&mut Call) + Sync {
+    move |call| {
+        if let (Kind::Replay, Ok(job)) = (call.kind, decode(call.job.part())) {
+            let mut state = State::start(&job);
+            for (at, &number) in call.schedule.part().iter().enumerate() {
+                match step(&job, &state, number) {
+                    Ok(next) => state = wrong(&job, &state, number, next),
+                    Err(reason) => {
+                        let words = [3, at as u64, u64::from(reason.number()), 0];
+                        return set_answer(call, words);
+                    }
+                }
+            }
+            let kind = if state.is_goal(&job) { 1 } else { 2 };
+            set_answer(call, [kind, 0, 0, 0]);
+        }
+    }
+}
+
+#[test]
+fn a_right_stand_in_for_the_steps_has_no_difference() {
+    let right = Spoiling(replaying(|_, _, _, next| next));
+    assert_eq!(report(&right, 1000, 1).differences, 0);
+}
+
+/// The instruction that a step executes, with its thread.
+fn executed(job: &Job, state: &State, number: u8) -> Option<(usize, Instruction)> {
+    match Step::from_number(number)? {
+        Step::Execute { thread } => {
+            let place = state.threads[thread].place;
+            Some((thread, job.programs[thread][place]))
+        }
+        Step::Flush { .. } => None,
+    }
+}
+
+fn own(state: &mut State, thread: usize) -> &mut Thread {
+    Rc::make_mut(&mut state.threads[thread])
+}
+
+/// Sums that another way of adding has, in jobs of this version.
+fn notices_sums(version: u8, sum: fn(Value, Value) -> Value) {
+    first_difference_of(
+        FOR_VERSIONS,
+        replaying(move |job, state, number, mut next| {
+            if let Some((thread, Instruction::Add { register, value })) =
+                executed(job, state, number).filter(|_| job.version == version)
+            {
+                let augend = state.threads[thread].registers[register];
+                own(&mut next, thread).registers[register] = sum(augend, value);
+            }
+            next
+        }),
+    );
+}
+
+#[test]
+fn a_sum_of_another_width() {
+    // Modulo 256; without a carry; as much as there is, in place of a sum that wraps; modulo 65,535; one byte of it.
+    let wrong: [fn(Value, Value) -> Value; 6] = [
+        |a, b| a.wrapping_add(b) & 0x00FF,
+        |a, b| {
+            let low = (a & 0x00FF).wrapping_add(b & 0x00FF) & 0x00FF;
+            (a & 0xFF00).wrapping_add(b & 0xFF00) | low
+        },
+        Value::saturating_add,
+        |a, b| ((u32::from(a) + u32::from(b)) % 65_535) as Value,
+        |a, b| a & 0xFF00 | a.wrapping_add(b) & 0x00FF,
+        |a, b| a.wrapping_add(b) & 0xFF00 | a & 0x00FF,
+    ];
+    for sum in wrong {
+        notices_sums(3, sum);
+    }
+    // In the others a sum goes on behind 255, or stays there.
+    for version in [1, 2] {
+        notices_sums(version, Value::wrapping_add);
+        notices_sums(version, |a, b| (a + b).min(255));
+        notices_sums(version, |a, b| (a + b) % 255);
+    }
+}
+
+/// What is left of a value if one of its bytes is not looked at.
+const HALVES: [fn(Value) -> Value; 2] = [|value| value & 0x00FF, |value| value & 0xFF00];
+
+#[test]
+fn a_jeq_that_looks_at_one_byte() {
+    for half in HALVES {
+        first_difference_of(
+            FOR_VERSIONS,
+            replaying(move |job, state, number, mut next| {
+                if let Some((
+                    thread,
+                    Instruction::JumpIfEqual {
+                        register,
+                        target,
+                        value,
+                    },
+                )) = executed(job, state, number)
+                {
+                    let held = state.threads[thread].registers[register];
+                    if half(held) == half(value) {
+                        own(&mut next, thread).place = target;
+                    }
+                }
+                next
+            }),
+        );
+    }
+}
+
+#[test]
+fn a_cmpx_that_looks_at_one_byte() {
+    for half in HALVES {
+        first_difference_of(
+            FOR_VERSIONS,
+            replaying(move |job, state, number, mut next| {
+                if let Some((
+                    thread,
+                    Instruction::CompareExchange {
+                        register,
+                        variable,
+                        value,
+                    },
+                )) = executed(job, state, number)
+                {
+                    let held = state.threads[thread].registers[register];
+                    if half(held) == half(state.memory[variable]) {
+                        next.memory[variable] = value;
+                    }
+                }
+                next
+            }),
+        );
+    }
+}
+
+#[test]
+fn a_clause_that_looks_at_one_byte() {
+    for half in HALVES {
+        for of_memory in [false, true] {
+            first_difference_of(FOR_VERSIONS, |call| {
+                if let (Kind::Replay, [2, ..], Ok(mut job)) =
+                    (call.kind, call.words(), decode(call.job.part()))
+                {
+                    let (state, _) = follow(&job, call.schedule.part());
+                    for clause in &mut job.goal.clauses {
+                        match clause {
+                            Clause::Register {
+                                thread,
+                                register,
+                                value,
+                            } if !of_memory => {
+                                let held = state.threads[*thread].registers[*register];
+                                if half(held) == half(*value) {
+                                    *value = held;
+                                }
+                            }
+                            Clause::Memory { variable, value } if of_memory => {
+                                let held = state.memory[*variable];
+                                if half(held) == half(*value) {
+                                    *value = held;
+                                }
+                            }
+                            _ => {}
+                        }
+                    }
+                    if state.is_goal(&job) {
+                        set_answer(call, [1, 0, 0, 0]);
+                    }
+                }
+            });
+        }
+    }
+}
+
+#[test]
+fn a_byte_that_is_lost_on_its_way() {
+    for half in HALVES {
+        // From memory to a register; from an own pending store to a register.
+        for from_buffer in [false, true] {
+            first_difference_of(
+                FOR_VERSIONS,
+                replaying(move |job, state, number, mut next| {
+                    if let Some((thread, Instruction::Load { register, variable })) =
+                        executed(job, state, number).filter(|_| job.version == 3)
+                    {
+                        let pending = state.threads[thread].buffer.newest(variable);
+                        if pending.is_some() == from_buffer {
+                            let loaded = &mut own(&mut next, thread).registers[register];
+                            *loaded = half(*loaded);
+                        }
+                    }
+                    next
+                }),
+            );
+        }
+        // From a register to memory or into a buffer.
+        first_difference_of(
+            FOR_VERSIONS,
+            replaying(move |job, state, number, next| {
+                match executed(job, state, number).filter(|_| job.version == 3) {
+                    Some((thread, Instruction::StoreRegister { register, .. })) => {
+                        let held = state.threads[thread].registers[register];
+                        let mut lost = state.clone();
+                        own(&mut lost, thread).registers[register] = half(held);
+                        let mut stored = step(job, &lost, number).expect("it can be taken");
+                        own(&mut stored, thread).registers[register] = held;
+                        stored
+                    }
+                    _ => next,
+                }
+            }),
+        );
+        // Either way of an exchange.
+        for into_memory in [false, true] {
+            first_difference_of(
+                FOR_VERSIONS,
+                replaying(move |job, state, number, mut next| {
+                    if let Some((thread, Instruction::Exchange { register, variable })) =
+                        executed(job, state, number).filter(|_| job.version == 3)
+                    {
+                        let got = if into_memory {
+                            &mut next.memory[variable]
+                        } else {
+                            &mut own(&mut next, thread).registers[register]
+                        };
+                        *got = half(*got);
+                    }
+                    next
+                }),
+            );
+        }
+        // From a buffer to memory.
+        first_difference_of(
+            FOR_VERSIONS,
+            replaying(move |job, _, number, mut next| {
+                if let (3, Some(Step::Flush { variable, .. })) =
+                    (job.version, Step::from_number(number))
+                {
+                    next.memory[variable] = half(next.memory[variable]);
+                }
+                next
+            }),
+        );
+    }
+}
+
+/// Where the values of a slot begin: those of registers, of memory and of buffers.
+fn values_in_slot() -> [Vec<usize>; 3] {
+    let [registers, memory] = [
+        LAYOUT.registers_at()..LAYOUT.memory_at(),
+        LAYOUT.memory_at()..LAYOUT.buffers_at(),
+    ]
+    .map(|values| values.step_by(2).collect());
+    let buffers = (LAYOUT.buffers_at()..SLOT_BYTES).step_by(LAYOUT.buffer_bytes());
+    let stores = buffers.flat_map(|count| {
+        let first = count + 1;
+        let stores = (first..first + 8 * LAYOUT.store_bytes()).step_by(LAYOUT.store_bytes());
+        stores.map(|variable| variable + 1)
+    });
+    [registers, memory, stores.collect()]
+}
+
+#[test]
+fn a_slot_with_a_wrong_byte_of_a_value() {
+    for values in values_in_slot() {
+        // Lost, taken for the other, both exchanged: in version 3.
+        let wrong: [fn([u8; 2]) -> [u8; 2]; 4] = [
+            |[_, low]| [0, low],
+            |[high, _]| [high, 0],
+            |[_, low]| [low, low],
+            |[high, low]| [low, high],
+        ];
+        for wrong in wrong {
+            notices_slots(&[3], |slot| {
+                for &at in &values {
+                    let put = wrong([slot[at], slot[at + 1]]);
+                    slot[at..at + 2].copy_from_slice(&put);
+                }
+            });
+        }
+        // In the others the high byte is 0, and the low one is the value.
+        let narrow: [fn([u8; 2]) -> [u8; 2]; 3] = [
+            |[_, low]| [low, low],
+            |[high, low]| [low, high],
+            |[_, low]| [1, low],
+        ];
+        for wrong in narrow {
+            for version in [1, 2] {
+                notices_slots(&[version], |slot| {
+                    for &at in &values {
+                        let put = wrong([slot[at], slot[at + 1]]);
+                        slot[at..at + 2].copy_from_slice(&put);
+                    }
+                });
+            }
+        }
+    }
+}
+
+#[test]
+fn a_search_that_errs_only_where_values_are_wide() {
+    for class in version_three::OF_WIDE_SEARCHES {
+        first_difference_of(FOR_VERSIONS, |call| {
+            if call.kind == Kind::Search && is_wide(call.job.part()) && call.words()[0] != 0 {
+                let searched = Searched {
+                    answer: call.words(),
+                    table: call.table.part(),
+                    schedule: call.schedule.part(),
+                };
+                if version_three::of_search(call.job.part(), searched).contains(&class) {
+                    call.answer.part_mut()[3] += 1;
+                }
+            }
+        });
+    }
+}
+
+#[test]
+fn a_replay_that_errs_only_where_values_are_wide() {
+    for class in version_three::OF_WIDE_REPLAYS {
+        notices_replays_of(3, class);
+    }
+}
+
+/// Jobs enough to meet two states that differ in any one piece alone.
+const FOR_PIECES: u64 = 8000;
+
+#[test]
+fn a_look_up_that_skips_a_piece() {
+    for piece in 0..PIECES {
+        first_difference_of(FOR_PIECES, |call| {
+            if call.kind == Kind::Search {
+                let counted = slots(call) * SLOT_BYTES;
+                if decides_alone(&call.table.part()[..counted], piece) {
+                    // Two of the states are taken for one.
+                    let [kind, ..] = call.words();
+                    call.answer.part_mut()[if kind == 1 { 2 } else { 1 }] -= 1;
+                }
+            }
+        });
+    }
+}
+
 #[test]
 fn a_difference_is_told_in_full() {
     let sizes = Sizes {
-        table: 2200,
+        table: 3400,
         links: 25,
         schedule: 23,
     };
     let call = Call::search(&mut Random::new(1), &P1, sizes);
     let liar = Spoiling(|call: &mut Call| {
-        call.table.part_mut()[97] = 9;
+        call.table.part_mut()[153] = 9;
         call.answer.part_mut()[1] = 5;
     });
     let text = hold(&liar, call).difference.expect("both spoils show");
     for line in [
-        "search with 2200 table bytes, 25 links, 23 schedule bytes",
+        "search with 3400 table bytes, 25 links, 23 schedule bytes",
         "job 00 2B 01 01 01 02 02",
         "library 1 5 22 0",
         "second checker 1 4 22 0",
-        "table: first difference at 97: library 9, second checker 0",
+        "table: first difference at 153: library 9, second checker 0",
     ] {
         assert!(text.contains(line), "'{line}' is not in\n{text}");
     }
@@ -1452,7 +2045,7 @@ fn a_refused_job_is_answered_alike_by_all_three() {
     let job = with_byte(&P1, 10, 10);
     let mut random = Random::new(2);
     let sizes = Sizes {
-        table: 96,
+        table: SLOT_BYTES,
         links: 1,
         schedule: 1,
     };
@@ -1546,7 +2139,10 @@ fn stuck_sections(model: Model) -> [&'static str; 2] {
     }
 }
 
-const NUMBERS: [&str; 9] = ["0", "1", "2", "3", "4", "5", "6", "7", "8"];
+const NUMBERS: [&str; PIECES] = [
+    "0", "1", "2", "3", "4", "5", "6", "7", "8", "9", "10", "11", "12", "13", "14", "15", "16",
+    "17", "18",
+];
 
 #[test]
 fn a_run_without_buffers_is_said_to_lack_the_reasons_of_buffers() {
@@ -1587,7 +2183,7 @@ fn neighbours_under(model: Model) -> Vec<&'static str> {
 
 #[test]
 fn every_stuck_replay_is_counted_by_its_reason() {
-    let tally = report(&Second, 2000, 2).tally;
+    let tally = many();
     let mut all = 0;
     for model in MODELS {
         let [by, beside] = stuck_sections(model);
@@ -1596,7 +2192,7 @@ fn every_stuck_replay_is_counted_by_its_reason() {
             all += count;
             // Each that can come up does so often, and the others never.
             if reasons_under(model).contains(&reason) {
-                assert!(count > 15, "only {count} of {by} {reason}");
+                assert!(count > 60, "only {count} of {by} {reason}");
             } else {
                 assert_eq!(count, 0, "{by} {reason}");
             }
@@ -1604,7 +2200,7 @@ fn every_stuck_replay_is_counted_by_its_reason() {
         for class in reasons::NEIGHBOURS {
             let count = tally.counted(beside, class);
             if neighbours_under(model).contains(&class) {
-                assert!(count > 3, "only {count} of {beside} {class}");
+                assert!(count > 12, "only {count} of {beside} {class}");
             } else {
                 assert_eq!(count, 0, "{beside} {class}");
             }
@@ -1618,11 +2214,11 @@ fn every_stuck_replay_is_counted_by_its_reason() {
 
 #[test]
 fn a_good_share_of_the_jobs_has_dead_code() {
-    let tally = report(&Second, 2000, 2).tally;
-    assert!(tally.counted("dead code", dead_code::DEAD_STORE) > 300);
+    let tally = many();
+    assert!(tally.counted("dead code", dead_code::DEAD_STORE) > 1200);
     for class in [dead_code::ALARM_GONE, dead_code::LATER_PAIR] {
         let moved = tally.counted("dead code, checks", class);
-        assert!(moved > 40, "only {moved} of {class}");
+        assert!(moved > 160, "only {moved} of {class}");
     }
 }
 
@@ -1676,29 +2272,116 @@ fn a_run_without_version_2_is_said_to_lack_it() {
     }
 }
 
+const WIDE_REFUSALS: [&str; 9] = [
+    version_three::TOO_LONG,
+    version_three::TOO_LONG_BEFORE,
+    version_three::TOO_LONG_OTHERWISE,
+    version_three::HALF_A_VALUE,
+    version_three::HALF_A_K,
+    version_three::HIGH_NOT_0,
+    version_three::LOW_NOT_0,
+    version_three::HIGH_PLACE,
+    version_three::LOW_PLACE,
+];
+
 #[test]
-fn half_of_the_jobs_are_of_version_2() {
-    let tally = report(&Second, 2000, 2).tally;
-    let [one, two] = ["1", "2"].map(|version| tally.counted("versions", version));
-    assert!(one > 500 && two > 500, "{one} and {two}");
-    for class in version_two::WITH_MEMORY {
-        let count = tally.counted("version 2 under", class);
-        assert!(count > 10, "only {count} under {class}");
+fn a_run_without_version_3_is_said_to_lack_it() {
+    // The first eleven are P1 to P11.
+    let lacking = report(&Second, 11, 1).tally.empty_classes();
+    let classes = |section: &str, classes: &[&str]| -> Vec<String> {
+        let named = classes.iter().map(|class| format!("{section}: {class}"));
+        named.collect()
+    };
+    let with_operations = [&version_two::WITH_CMPX[..], &version_two::WITH_WFENCE].concat();
+    for class in [
+        classes("versions", &["3"]),
+        classes("bytes", &lengths::OF_FILES),
+        classes("version 3 under", &version_two::WITH_MEMORY),
+        classes("version 3", &with_operations),
+        classes(
+            "version 3",
+            &[version_two::NEITHER, version_two::BAD_OPERAND],
+        ),
+        classes("version 3, searches", &version_two::OF_SEARCHES),
+        classes("version 3, slots", &groups::OF_SLOTS),
+        classes("version 3, replays", &version_two::OF_REPLAYS),
+        classes("version 3, checks", &version_two::OF_FENCE_CHECKS),
+        classes("wide values", &[&WIDE_K[..], &WIDE_CLAUSE].concat()),
+        classes("wide values", &[version_three::WIDE_INITIAL]),
+        classes("wide values", &[version_three::AT_MOST]),
+        classes("wide values", &[version_three::LONG_FILE]),
+        classes("wide values, refused", &WIDE_REFUSALS),
+        classes("wide values, slots", &version_three::OF_WIDE_SEARCHES),
+        classes("wide values, replays", &version_three::OF_WIDE_REPLAYS),
+        classes("narrow values", &sums::OVER_255[1..]),
+        classes(
+            "searches, version 3",
+            &["reachable", "unreachable", "unknown"],
+        ),
+    ]
+    .concat()
+    {
+        assert!(lacking.contains(&class), "{class} not in {lacking:?}");
     }
-    for class in version_two::OF_REPLAYS {
-        let count = tally.counted("version 2, replays", class);
-        assert!(count > 2, "only {count} of {class}");
+}
+
+#[test]
+fn every_class_of_version_3_is_one_of_the_summary() {
+    let lacking = Tally::default().empty_classes();
+    let named = |class: &str| {
+        lacking
+            .iter()
+            .any(|name| name.ends_with(&format!(": {class}")))
+    };
+    for class in [
+        version_three::of_jobs(),
+        version_three::of_replays(),
+        version_three::of_searches(),
+        version_three::OF_FENCE_CHECKS.to_vec(),
+    ]
+    .concat()
+    {
+        assert!(named(class), "{class}");
+    }
+}
+
+#[test]
+fn a_third_of_the_jobs_is_of_each_version() {
+    let tally = many();
+    for version in ["1", "2", "3"] {
+        let count = tally.counted("versions", version);
+        assert!(count > 1500, "only {count} of version {version}");
     }
     let alike: u64 = ["refused", "reachable", "reaches", "stuck", "FENCED", "OPEN"]
         .iter()
         .map(|class| tally.counted("in both versions", class))
         .sum();
-    assert!(alike > 1000, "only {alike} calls in both versions");
+    assert!(alike > 4000, "only {alike} calls in both versions");
+}
+
+#[test]
+fn no_class_of_a_version_is_met_by_chance_alone() {
+    let tally = many();
+    let met_more_than = |floor: u64, section: &'static str, classes: &[&'static str]| {
+        for class in classes {
+            let count = tally.counted(section, class);
+            assert!(count > floor, "only {count} of {section}: {class}");
+        }
+    };
+    met_more_than(30, "version 2 under", &version_two::WITH_MEMORY);
+    met_more_than(30, "version 3 under", &version_two::WITH_MEMORY);
+    met_more_than(4, "version 2, replays", &version_two::OF_REPLAYS);
+    met_more_than(4, "version 3, replays", &version_two::OF_REPLAYS);
+    met_more_than(20, "wide values", &[&WIDE_K[..], &WIDE_CLAUSE].concat());
+    met_more_than(4, "wide values, refused", &WIDE_REFUSALS);
+    met_more_than(100, "wide values, slots", &version_three::OF_WIDE_SEARCHES);
+    met_more_than(20, "wide values, replays", &version_three::OF_WIDE_REPLAYS);
+    met_more_than(100, "narrow values", &sums::OVER_255);
+    met_more_than(4, "one piece apart", &NUMBERS);
 }
 
 #[test]
 fn a_run_over_many_jobs_meets_every_class() {
-    let many = report(&Second, 4000, 2).tally.empty_classes();
     // Only the job that is left out here has so much room.
-    assert_eq!(many, ["rooms: over 65,536 slots"]);
+    assert_eq!(many().empty_classes(), ["rooms: over 65,536 slots"]);
 }

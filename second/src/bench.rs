@@ -6,7 +6,7 @@ use crate::job::{decode, Job, Model};
 use crate::machine::SLOT_BYTES;
 use crate::search::search;
 
-const BENCH_SLOTS: usize = 640;
+pub const BENCH_SLOTS: usize = 400;
 
 /// Exactly what the bench program prints when this is its standard input.
 pub fn bench_lines(job: &[u8]) -> String {

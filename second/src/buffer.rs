@@ -1,10 +1,12 @@
 //! A thread's buffer: its stores on their way to memory, in groups that a WFENCE keeps apart.
 
+use crate::job::Value;
+
 /// A store on its way to memory.
 #[derive(Clone, Copy, Debug, PartialEq, Eq)]
 pub struct Pending {
     pub variable: u8,
-    pub value: u8,
+    pub value: Value,
 }
 
 /// A list of queues ("lanes"), oldest store first in each: one for everything under TSO, one a variable under PSO.
@@ -21,8 +23,10 @@ pub struct Buffer {
     wfence: bool,
 }
 
-/// In a slot: the count, and room for eight pairs.
-pub const BUFFER_BYTES: usize = 17;
+/// In a slot: the count, and room for eight stores.
+pub const BUFFER_BYTES: usize = 1 + 8 * STORE_BYTES;
+/// In a slot: the variable with its group, and the value, the high byte first.
+const STORE_BYTES: usize = 3;
 const GROUP_SIGN: u8 = 16;
 const WFENCE_SIGN: u8 = 128;
 
@@ -60,7 +64,7 @@ impl Buffer {
     }
 
     /// The newest store to the variable, in whichever group it is.
-    pub fn newest(&self, variable: usize) -> Option<u8> {
+    pub fn newest(&self, variable: usize) -> Option<Value> {
         // In a group all stores to one variable share a lane, so the first hit from the back is the newest.
         let hit = |lane: &Vec<Pending>| {
             lane.iter()
@@ -111,7 +115,7 @@ impl Buffer {
         Some(store)
     }
 
-    /// The count and the pairs, as they stand in a slot.
+    /// The count and the stores, as they stand in a slot.
     pub fn bytes(&self) -> [u8; BUFFER_BYTES] {
         let mut bytes = [0; BUFFER_BYTES];
         bytes[0] = self.pending() as u8;
@@ -119,12 +123,15 @@ impl Buffer {
             bytes[0] += WFENCE_SIGN;
         }
         let numbered = (0..).zip(&self.groups);
-        let pairs = numbered.flat_map(|(number, group)| {
-            let pair = move |store: &Pending| [store.variable + GROUP_SIGN * number, store.value];
-            group.iter().flatten().map(pair)
+        let stores = numbered.flat_map(|(number, group)| {
+            let entry = move |store: &Pending| {
+                let [high, low] = store.value.to_be_bytes();
+                [store.variable + GROUP_SIGN * number, high, low]
+            };
+            group.iter().flatten().map(entry)
         });
-        for (room, pair) in bytes[1..].chunks_exact_mut(2).zip(pairs) {
-            room.copy_from_slice(&pair);
+        for (room, entry) in bytes[1..].chunks_exact_mut(STORE_BYTES).zip(stores) {
+            room.copy_from_slice(&entry);
         }
         bytes
     }

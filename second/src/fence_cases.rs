@@ -10,8 +10,10 @@ use crate::listed::{
 };
 use crate::long_threads::MOST_BEFORE;
 use crate::random::{damaged_job_of, random_bytes_of, sound_job_of, Random};
+use crate::version_three_jobs::{at_the_limit_of_three, refused_of_three};
 use crate::version_two_jobs::{refused_about_versions, refused_in_both};
-use crate::{dead_code, dead_code_cases, long_threads, version_two, version_two_fences};
+use crate::{dead_code, dead_code_cases, long_threads};
+use crate::{version_three, version_three_fences, version_two, version_two_fences};
 
 /// A job, and the line that a person says for it from the paper.
 pub type Known = (Vec<u8>, String);
@@ -36,7 +38,7 @@ fn open(thread: u64, store: u64, load: u64) -> String {
     format!("OPEN {thread} {store} {load}")
 }
 
-/// Those of version 2 come behind those of version 1, which stay where they were.
+/// Those of version 2 come behind those of version 1, and those of version 3 behind these; all stay where they were.
 pub fn all() -> Vec<Vec<u8>> {
     let without_line = |known: Vec<Known>| known.into_iter().map(|(job, _)| job).collect();
     [
@@ -47,6 +49,9 @@ pub fn all() -> Vec<Vec<u8>> {
         without_line(known_of_version_two()),
         version_two_fences::every_small_program(),
         version_two_fences::random_jobs(),
+        without_line(known_of_version_three()),
+        vec![at_the_limit_of_three()],
+        version_three_fences::random_jobs(),
     ]
     .concat()
 }
@@ -69,6 +74,17 @@ pub fn counts_of_version_two() -> Counts {
     counts(&classes, version_two::of_job, version_two::of_fence_check)
 }
 
+/// How many cases are of version 3, and what their answers hang on, by class.
+pub fn counts_of_version_three() -> Counts {
+    let classes = [
+        &version_three::of_jobs()[..],
+        &version_three::OF_FENCE_CHECKS,
+    ]
+    .concat();
+    let of_fence_check = version_three::of_fence_check;
+    counts(&classes, version_three::of_job, of_fence_check)
+}
+
 type ClassesOf = fn(&[u8]) -> Vec<&'static str>;
 
 fn counts(classes: &[&'static str], of_job: ClassesOf, of_fence_check: ClassesOf) -> Counts {
@@ -79,7 +95,17 @@ fn counts(classes: &[&'static str], of_job: ClassesOf, of_fence_check: ClassesOf
 
 /// The cases whose lines a person can say.
 pub fn all_known() -> Vec<Known> {
-    [known_of_version_one(), known_of_version_two()].concat()
+    [
+        known_of_version_one(),
+        known_of_version_two(),
+        known_of_version_three(),
+    ]
+    .concat()
+}
+
+fn known_of_version_three() -> Vec<Known> {
+    let refused = refusals(refused_of_three());
+    [version_three_fences::all_known(), refused].concat()
 }
 
 fn known_of_version_two() -> Vec<Known> {

@@ -23,16 +23,19 @@ pub enum Model {
     Pso,
 }
 
-/// Registers, variables and places are kept as indices, values as bytes.
+/// Of a register, a variable or a pending store; how many there are, the version's width says.
+pub type Value = u16;
+
+/// Registers, variables and places are kept as indices.
 #[derive(Clone, Copy, Debug, PartialEq, Eq)]
 pub enum Instruction {
     Set {
         register: usize,
-        value: u8,
+        value: Value,
     },
     Add {
         register: usize,
-        value: u8,
+        value: Value,
     },
     Load {
         register: usize,
@@ -44,7 +47,7 @@ pub enum Instruction {
     },
     StoreConstant {
         variable: usize,
-        value: u8,
+        value: Value,
     },
     Fence,
     Exchange {
@@ -55,14 +58,14 @@ pub enum Instruction {
     CompareExchange {
         register: usize,
         variable: usize,
-        value: u8,
+        value: Value,
     },
     /// WFENCE, which keeps stores apart from later stores.
     StoreFence,
     JumpIfEqual {
         register: usize,
         target: usize,
-        value: u8,
+        value: Value,
     },
     Jump {
         target: usize,
@@ -78,11 +81,11 @@ pub enum Clause {
     Register {
         thread: usize,
         register: usize,
-        value: u8,
+        value: Value,
     },
     Memory {
         variable: usize,
-        value: u8,
+        value: Value,
     },
 }
 
@@ -94,19 +97,25 @@ pub struct Goal {
 
 #[derive(Clone, Debug, PartialEq, Eq)]
 pub struct Job {
-    /// It decides which operations a file may have, and nothing else.
+    /// It decides which operations a file may have and how wide its values are, and nothing else.
     pub version: u8,
     pub model: Model,
     pub capacity: usize,
     /// One entry a variable, so its length is V.
-    pub initial: Vec<u8>,
+    pub initial: Vec<Value>,
     /// One entry a thread, so its length is T.
     pub programs: Vec<Vec<Instruction>>,
     pub goal: Goal,
 }
 
+impl Job {
+    pub fn width(&self) -> Width {
+        width(self.version)
+    }
+}
+
 /// Of job files. This is the only place that says it: any other version is refused.
-pub const VERSIONS: RangeInclusive<u8> = 1..=2;
+pub const VERSIONS: RangeInclusive<u8> = 1..=3;
 
 /// The operation numbers that have a meaning in a file of this version.
 pub fn operations(version: u8) -> RangeInclusive<u8> {
@@ -114,6 +123,94 @@ pub fn operations(version: u8) -> RangeInclusive<u8> {
         1 => 1..=9,
         // Request 7 brought CMPX and WFENCE.
         _ => 1..=11,
+    }
+}
+
+/// How wide the values of a version are. This is the only place that says it: a byte that is no version has the width of version 1.
+pub const fn width(version: u8) -> Width {
+    match version {
+        // Request 10 brought flag words of sixteen bits.
+        3 => Width { bytes: 2 },
+        _ => Width { bytes: 1 },
+    }
+}
+
+/// What hangs on how many bytes a value has in a file.
+#[derive(Clone, Copy, Debug, PartialEq, Eq)]
+pub struct Width {
+    bytes: usize,
+}
+
+impl Width {
+    /// Of a value.
+    pub const fn bytes(self) -> usize {
+        self.bytes
+    }
+
+    /// How many values there are: 256 or 65,536.
+    pub const fn values(self) -> u32 {
+        1 << (8 * self.bytes)
+    }
+
+    /// Of an instruction, and of a clause: op or kind, two operands and a value.
+    pub const fn item_bytes(self) -> usize {
+        3 + self.bytes
+    }
+
+    /// All counts at their most: head, initial values, n and instructions of each thread, flag and K, clauses.
+    pub const fn longest_file(self) -> usize {
+        HEAD_BYTES
+            + MOST_VARIABLES * self.bytes
+            + MOST_THREADS * (1 + self.item_bytes() * MOST_INSTRUCTIONS)
+            + 2
+            + self.item_bytes() * MOST_CLAUSES
+    }
+
+    /// What ADD leaves.
+    pub fn sum(self, augend: Value, addend: Value) -> Value {
+        ((u32::from(augend) + u32::from(addend)) % self.values()) as Value
+    }
+
+    /// A value as it stands in a file, the high byte first.
+    pub fn in_file(self, value: Value) -> Vec<u8> {
+        let bytes = value.to_be_bytes();
+        bytes[bytes.len() - self.bytes..].to_vec()
+    }
+
+    /// The value that stands there.
+    pub fn from_file(self, bytes: &[u8]) -> Value {
+        let digits = bytes.iter();
+        digits.fold(0, |value, &byte| value << 8 | Value::from(byte))
+    }
+}
+
+/// An instruction or a clause before it is judged: op or kind, two operands, and k.
+#[derive(Clone, Copy, Debug, PartialEq, Eq)]
+pub struct Item {
+    pub first: u8,
+    pub a: u8,
+    pub b: u8,
+    pub k: Value,
+}
+
+pub const fn item(first: u8, a: u8, b: u8, k: Value) -> Item {
+    Item { first, a, b, k }
+}
+
+impl Item {
+    pub fn in_file(self, width: Width) -> Vec<u8> {
+        [&[self.first, self.a, self.b][..], &width.in_file(self.k)].concat()
+    }
+
+    pub fn from_file(bytes: &[u8], width: Width) -> Item {
+        item(bytes[0], bytes[1], bytes[2], width.from_file(&bytes[3..]))
+    }
+}
+
+/// Where a value has one byte.
+impl From<[u8; 4]> for Item {
+    fn from([first, a, b, k]: [u8; 4]) -> Item {
+        item(first, a, b, k.into())
     }
 }
 
@@ -128,15 +225,14 @@ const REGISTERS: usize = 4;
 
 /// Length, version, model, C, T and V.
 const HEAD_BYTES: usize = 7;
-/// Of an instruction, and of a clause.
-const QUAD_BYTES: usize = 4;
 
-/// All counts at their most: head, initial values, n and instructions of each thread, flag and K, clauses.
-pub const LONGEST_FILE: usize = HEAD_BYTES
-    + MOST_VARIABLES
-    + MOST_THREADS * (1 + QUAD_BYTES * MOST_INSTRUCTIONS)
-    + 2
-    + QUAD_BYTES * MOST_CLAUSES;
+/// Of any version: the last has the widest values.
+pub const LONGEST_FILE: usize = longest_file(*VERSIONS.end());
+
+/// With this version byte.
+pub const fn longest_file(version: u8) -> usize {
+    width(version).longest_file()
+}
 
 /// Reads a job file from the front; the first fault wins.
 pub fn decode(job: &[u8]) -> Result<Job, Refusal> {
@@ -148,12 +244,16 @@ pub fn decode(job: &[u8]) -> Result<Job, Refusal> {
     let capacity = reader.ranged_byte(3, |c| capacity_fits(model, c))?;
     let threads = reader.ranged_count(3, 1..=MOST_THREADS)?;
     let variables = reader.ranged_count(3, 1..=MOST_VARIABLES)?;
-    let initial = read_initial(&mut reader, variables)?;
+    let mut initial = Vec::new();
+    for _ in 0..variables {
+        // Each value is a field of its own, so one that is not wholly there is refused where it begins.
+        initial.push(reader.value(width(version))?);
+    }
     let mut programs = Vec::new();
     for _ in 0..threads {
-        programs.push(read_program(&mut reader, version, initial.len())?);
+        programs.push(read_program(&mut reader, version, variables)?);
     }
-    let goal = read_goal(&mut reader, &programs, initial.len())?;
+    let goal = read_goal(&mut reader, version, &programs, variables)?;
     reader.finish()?;
     Ok(Job {
         version,
@@ -166,7 +266,8 @@ pub fn decode(job: &[u8]) -> Result<Job, Refusal> {
 }
 
 fn check_length(job: &[u8]) -> Result<(), Refusal> {
-    let size_fits = (3..=LONGEST_FILE).contains(&job.len());
+    // How long a file may be hangs on its version byte, whether or not that is a version.
+    let size_fits = (job.get(2)).map_or(false, |&version| job.len() <= longest_file(version));
     // The size is judged before the length field is looked at, so indexing is safe.
     if size_fits && usize::from(u16::from_be_bytes([job[0], job[1]])) == job.len() - 2 {
         Ok(())
@@ -195,15 +296,6 @@ fn capacity_fits(model: Model, capacity: u8) -> bool {
     }
 }
 
-fn read_initial(reader: &mut Reader, variables: usize) -> Result<Vec<u8>, Refusal> {
-    let mut initial = Vec::new();
-    for _ in 0..variables {
-        // Each value is a field of its own, so a missing one is refused where it would begin.
-        initial.push(reader.ranged_byte(3, |_| true)?);
-    }
-    Ok(initial)
-}
-
 fn read_program(
     reader: &mut Reader,
     version: u8,
@@ -212,40 +304,37 @@ fn read_program(
     let length = reader.ranged_count(4, 0..=MOST_INSTRUCTIONS)?;
     let mut program = Vec::new();
     for _ in 0..length {
-        let (offset, bytes) = reader.quad()?;
-        let has_meaning = operations(version).contains(&bytes[0]);
-        let instruction = instruction_from(bytes, variables, length).filter(|_| has_meaning);
+        let (offset, item) = reader.instruction_or_clause(width(version))?;
+        let has_meaning = operations(version).contains(&item.first);
+        let instruction = instruction_from(item, variables, length).filter(|_| has_meaning);
         program.push(instruction.ok_or(Refusal { number: 4, offset })?);
     }
     Ok(program)
 }
 
-/// The instruction these four bytes mean in some version, or nothing if they mean none in any.
-fn instruction_from(
-    [op, a, b, c]: [u8; 4],
-    variables: usize,
-    length: usize,
-) -> Option<Instruction> {
+/// The instruction that this means in some version, or nothing if it means none in any.
+fn instruction_from(item: Item, variables: usize, length: usize) -> Option<Instruction> {
+    let Item { first, a, b, k } = item;
     let register = || index_below(a, REGISTERS);
     let variable = || index_below(b, variables);
     // A jump may go to the end, which is one past the last instruction.
     let target = || index_below(b, length + 1);
-    match op {
+    match first {
         1 => zero(b)
             .and(register())
-            .map(|register| Instruction::Set { register, value: c }),
+            .map(|register| Instruction::Set { register, value: k }),
         2 => zero(b)
             .and(register())
-            .map(|register| Instruction::Add { register, value: c }),
+            .map(|register| Instruction::Add { register, value: k }),
         3 => {
-            zero(c)?;
+            zero(k)?;
             Some(Instruction::Load {
                 register: register()?,
                 variable: variable()?,
             })
         }
         4 => {
-            zero(c)?;
+            zero(k)?;
             Some(Instruction::StoreRegister {
                 register: register()?,
                 variable: variable()?,
@@ -253,13 +342,13 @@ fn instruction_from(
         }
         5 => zero(a)
             .and(variable())
-            .map(|variable| Instruction::StoreConstant { variable, value: c }),
+            .map(|variable| Instruction::StoreConstant { variable, value: k }),
         6 => zero(a)
             .and(zero(b))
-            .and(zero(c))
+            .and(zero(k))
             .map(|()| Instruction::Fence),
         7 => {
-            zero(c)?;
+            zero(k)?;
             Some(Instruction::Exchange {
                 register: register()?,
                 variable: variable()?,
@@ -268,20 +357,20 @@ fn instruction_from(
         8 => Some(Instruction::JumpIfEqual {
             register: register()?,
             target: target()?,
-            value: c,
+            value: k,
         }),
         9 => zero(a)
-            .and(zero(c))
+            .and(zero(k))
             .and(target())
             .map(|target| Instruction::Jump { target }),
         10 => Some(Instruction::CompareExchange {
             register: register()?,
             variable: variable()?,
-            value: c,
+            value: k,
         }),
         11 => zero(a)
             .and(zero(b))
-            .and(zero(c))
+            .and(zero(k))
             .map(|()| Instruction::StoreFence),
         0 | 12..=255 => None,
     }
@@ -289,6 +378,7 @@ fn instruction_from(
 
 fn read_goal(
     reader: &mut Reader,
+    version: u8,
     programs: &[Vec<Instruction>],
     variables: usize,
 ) -> Result<Goal, Refusal> {
@@ -296,8 +386,8 @@ fn read_goal(
     let count = reader.ranged_count(5, LEAST_CLAUSES..=MOST_CLAUSES)?;
     let mut clauses = Vec::new();
     for _ in 0..count {
-        let (offset, bytes) = reader.quad()?;
-        let clause = clause_from(bytes, programs, variables);
+        let (offset, item) = reader.instruction_or_clause(width(version))?;
+        let clause = clause_from(item, programs, variables);
         clauses.push(clause.ok_or(Refusal { number: 5, offset })?);
     }
     Ok(Goal {
@@ -306,18 +396,15 @@ fn read_goal(
     })
 }
 
-/// The clause these four bytes mean, or nothing if they mean none.
-fn clause_from(
-    [kind, a, b, c]: [u8; 4],
-    programs: &[Vec<Instruction>],
-    variables: usize,
-) -> Option<Clause> {
-    match kind {
+/// The clause that this means, or nothing if it means none.
+fn clause_from(item: Item, programs: &[Vec<Instruction>], variables: usize) -> Option<Clause> {
+    let Item { first, a, b, k } = item;
+    match first {
         1 => {
             zero(b)?;
             let thread = index_below(a, programs.len())?;
             // The end of a program is a place too.
-            let place = index_below(c, programs[thread].len() + 1)?;
+            let place = index_below(k, programs[thread].len() + 1)?;
             Some(Clause::Place { thread, place })
         }
         2 => {
@@ -326,24 +413,24 @@ fn clause_from(
             Some(Clause::Register {
                 thread,
                 register,
-                value: c,
+                value: k,
             })
         }
         3 => {
             zero(b)?;
             let variable = index_below(a, variables)?;
-            Some(Clause::Memory { variable, value: c })
+            Some(Clause::Memory { variable, value: k })
         }
         0 | 4..=255 => None,
     }
 }
 
-fn zero(byte: u8) -> Option<()> {
-    (byte == 0).then_some(())
+fn zero(operand: impl Into<Value>) -> Option<()> {
+    (operand.into() == 0).then_some(())
 }
 
-fn index_below(byte: u8, bound: usize) -> Option<usize> {
-    let index = usize::from(byte);
+fn index_below(operand: impl Into<usize>, bound: usize) -> Option<usize> {
+    let index = operand.into();
     (index < bound).then_some(index)
 }
 
@@ -384,10 +471,16 @@ impl Reader<'_> {
         Ok(usize::from(count))
     }
 
+    /// The next field that holds a value; every value is allowed.
+    fn value(&mut self, width: Width) -> Result<Value, Refusal> {
+        let (_, bytes) = self.item(width.bytes())?;
+        Ok(width.from_file(bytes))
+    }
+
     /// The next instruction or clause with its offset.
-    fn quad(&mut self) -> Result<(usize, [u8; QUAD_BYTES]), Refusal> {
-        let (offset, bytes) = self.item(QUAD_BYTES)?;
-        Ok((offset, [bytes[0], bytes[1], bytes[2], bytes[3]]))
+    fn instruction_or_clause(&mut self, width: Width) -> Result<(usize, Item), Refusal> {
+        let (offset, bytes) = self.item(width.item_bytes())?;
+        Ok((offset, Item::from_file(bytes, width)))
     }
 
     /// Bytes after the last item are a fault of their own.

@@ -78,16 +78,17 @@ fn misplaced_line(items: &[(usize, usize)], bytes: &[u8]) -> Option<LineFault> {
 
 /// The sizes of the fields, instructions and clauses of a job file, in order.
 fn item_sizes(job: &Job) -> Vec<usize> {
+    let [value, item] = [job.width().bytes(), job.width().item_bytes()];
     // Length; then version, model, C, T and V.
     let mut sizes = vec![2, 1, 1, 1, 1, 1];
-    sizes.extend(job.initial.iter().map(|_| 1));
+    sizes.extend(job.initial.iter().map(|_| value));
     for program in &job.programs {
         sizes.push(1);
-        sizes.extend(program.iter().map(|_| 4));
+        sizes.extend(program.iter().map(|_| item));
     }
     // Flag and K.
     sizes.extend([1, 1]);
-    sizes.extend(job.goal.clauses.iter().map(|_| 4));
+    sizes.extend(job.goal.clauses.iter().map(|_| item));
     sizes
 }
 

@@ -1,6 +1,6 @@
 //! The jobs of the bench list, and what job files are put together with.
 
-use crate::job::{LONGEST_FILE, MOST_INSTRUCTIONS};
+use crate::job::{width, Item, Value, LONGEST_FILE, MOST_INSTRUCTIONS};
 use std::slice;
 
 /// P1 of the bench list, store buffering.
@@ -40,7 +40,7 @@ pub const AT_THE_START: [u8; 4] = [1, 0, 0, 0];
 /// A step of long threads: counts in a register that they use for nothing else.
 pub const COUNT: [u8; 4] = [2, 1, 0, 1];
 
-/// A job file whose counts and length field are right.
+/// A job file of version 1 whose counts and length field are right.
 pub fn file(
     memory: Memory,
     initial: &[u8],
@@ -48,17 +48,79 @@ pub fn file(
     flag: u8,
     clauses: &[[u8; 4]],
 ) -> Vec<u8> {
-    let mut bytes = vec![0, 0, 1];
-    bytes.extend(memory);
-    bytes.extend([programs.len() as u8, initial.len() as u8]);
-    bytes.extend(initial);
-    for program in programs {
-        bytes.push(program.len() as u8);
-        bytes.extend(program.concat());
+    let items = |quads: &[[u8; 4]]| quads.iter().map(|&quad| quad.into()).collect();
+    let parts = Parts {
+        version: 1,
+        memory,
+        initial: initial.iter().map(|&value| value.into()).collect(),
+        programs: programs.iter().map(|program| items(program)).collect(),
+        flag,
+        clauses: items(clauses),
+    };
+    parts.file()
+}
+
+/// A job file taken apart, so that a part can be exchanged.
+#[derive(Clone, Debug, PartialEq, Eq)]
+pub struct Parts {
+    pub version: u8,
+    pub memory: Memory,
+    pub initial: Vec<Value>,
+    pub programs: Vec<Vec<Item>>,
+    pub flag: u8,
+    pub clauses: Vec<Item>,
+}
+
+impl Parts {
+    /// Of a file that is accepted.
+    pub fn of(job: &[u8]) -> Parts {
+        let width = width(job[2]);
+        let mut rest = &job[7..];
+        let initial = pieces(&mut rest, job[6], width.bytes());
+        let items = |rest: &mut &[u8]| -> Vec<Item> {
+            let count = pieces(rest, 1, 1)[0][0];
+            let items = pieces(rest, count, width.item_bytes()).into_iter();
+            items.map(|item| Item::from_file(item, width)).collect()
+        };
+        let programs = (0..job[5]).map(|_| items(&mut rest)).collect();
+        let flag = pieces(&mut rest, 1, 1)[0][0];
+        let initial = initial.into_iter();
+        Parts {
+            version: job[2],
+            memory: [job[3], job[4]],
+            initial: initial.map(|value| width.from_file(value)).collect(),
+            programs,
+            flag,
+            clauses: items(&mut rest),
+        }
     }
-    bytes.extend([flag, clauses.len() as u8]);
-    bytes.extend(clauses.concat());
-    settled(bytes)
+
+    /// Counts and length field are right.
+    pub fn file(&self) -> Vec<u8> {
+        let width = width(self.version);
+        let in_file = |items: &[Item]| -> Vec<u8> {
+            let bytes = items.iter().flat_map(|item| item.in_file(width));
+            bytes.collect()
+        };
+        let mut bytes = vec![0, 0, self.version];
+        bytes.extend(self.memory);
+        bytes.extend([self.programs.len() as u8, self.initial.len() as u8]);
+        bytes.extend(self.initial.iter().flat_map(|&value| width.in_file(value)));
+        for program in &self.programs {
+            bytes.push(program.len() as u8);
+            bytes.extend(in_file(program));
+        }
+        bytes.extend([self.flag, self.clauses.len() as u8]);
+        bytes.extend(in_file(&self.clauses));
+        settled(bytes)
+    }
+}
+
+/// Takes so many pieces of so many bytes from the front.
+fn pieces<'a>(rest: &mut &'a [u8], count: u8, bytes: usize) -> Vec<&'a [u8]> {
+    let (front, behind) = rest.split_at(usize::from(count) * bytes);
+    *rest = behind;
+    front.chunks_exact(bytes).collect()
 }
 
 /// The same bytes with a right length field, if there is room for one.
@@ -76,9 +138,18 @@ pub fn with_byte(bytes: &[u8], at: usize, value: u8) -> Vec<u8> {
     changed
 }
 
-/// The same job in another version: the numbers that say how long things are stay right.
+/// The same bytes with another version byte; where values are as wide, the numbers that say how long things are stay right.
 pub fn in_version(job: &[u8], version: u8) -> Vec<u8> {
     with_byte(job, 2, version)
+}
+
+/// A job that is accepted, written in a version of another width.
+pub fn rewritten(job: &[u8], version: u8) -> Vec<u8> {
+    let parts = Parts {
+        version,
+        ..Parts::of(job)
+    };
+    parts.file()
 }
 
 /// The same job under another model and capacity.

@@ -1,24 +1,31 @@
 //! Machine states and the steps between them.
 
+use crate::buffer::BUFFER_BYTES;
 pub use crate::buffer::{Buffer, Pending};
-use crate::job::{Clause, Instruction, Job, Model};
+use crate::job::{Clause, Instruction, Job, Model, Value};
 use std::collections::BTreeMap;
 use std::hash::{Hash, Hasher};
 use std::rc::Rc;
 
-pub const SLOT_BYTES: usize = 96;
+/// The same for all versions: a value has two bytes here, of which the high one stays 0 where values have one in the file.
+pub const SLOT_BYTES: usize = BUFFERS_AT + 4 * BUFFER_BYTES;
+
+// Four places come first; then four registers of each of four threads, eight variables, and four buffers.
+const REGISTERS_AT: usize = 4;
+const MEMORY_AT: usize = REGISTERS_AT + 2 * 4 * 4;
+const BUFFERS_AT: usize = MEMORY_AT + 2 * 8;
 
 #[derive(Clone, Debug, PartialEq, Eq)]
 pub struct Thread {
     pub place: usize,
-    pub registers: [u8; 4],
+    pub registers: [Value; 4],
     pub buffer: Buffer,
 }
 
 /// Threads are shared between states, because a step changes at most one of them.
 #[derive(Clone, Debug, PartialEq, Eq)]
 pub struct State {
-    pub memory: Vec<u8>,
+    pub memory: Vec<Value>,
     pub threads: Vec<Rc<Thread>>,
 }
 
@@ -80,23 +87,28 @@ impl State {
         }
     }
 
-    /// The 96 bytes of this state in the lent table.
+    /// The bytes of this state in the lent table; what the job doesn't use stays 0.
     pub fn slot(&self) -> Vec<u8> {
         let mut slot = Vec::with_capacity(SLOT_BYTES);
         slot.extend(self.threads.iter().map(|thread| thread.place as u8));
-        slot.resize(4, 0);
+        slot.resize(REGISTERS_AT, 0);
         for thread in &self.threads {
-            slot.extend(thread.registers);
+            slot.extend(in_slot(&thread.registers));
         }
-        slot.resize(20, 0);
-        slot.extend(&self.memory);
-        slot.resize(28, 0);
+        slot.resize(MEMORY_AT, 0);
+        slot.extend(in_slot(&self.memory));
+        slot.resize(BUFFERS_AT, 0);
         for thread in &self.threads {
             slot.extend(thread.buffer.bytes());
         }
         slot.resize(SLOT_BYTES, 0);
         slot
     }
+}
+
+/// Values as they stand in a slot.
+fn in_slot(values: &[Value]) -> impl Iterator<Item = u8> + '_ {
+    values.iter().flat_map(|value| value.to_be_bytes())
 }
 
 /// Equal states have equal slots, and one flat run of bytes is quick to hash.
@@ -327,8 +339,7 @@ fn execute(job: &Job, state: &State, thread: usize) -> Option<State> {
     match instruction {
         Instruction::Set { register, value } => own.registers[register] = value,
         Instruction::Add { register, value } => {
-            let sum = u16::from(own.registers[register]) + u16::from(value);
-            own.registers[register] = (sum % 256) as u8;
+            own.registers[register] = job.width().sum(own.registers[register], value);
         }
         Instruction::Load { register, variable } => {
             let pending = own.buffer.newest(variable);
@@ -395,7 +406,7 @@ fn must_wait(job: &Job, thread: &Thread, instruction: Instruction) -> bool {
     }
 }
 
-fn store(model: Model, thread: &mut Thread, memory: &mut [u8], variable: usize, value: u8) {
+fn store(model: Model, thread: &mut Thread, memory: &mut [Value], variable: usize, value: Value) {
     let pending = Pending {
         variable: variable as u8,
         value,

@@ -1,6 +1,9 @@
 //! Repeatable random jobs, buffer sizes and schedules for a comparison.
 
-use crate::job::{decode, Job, Model, LONGEST_FILE, MOST_INSTRUCTIONS, VERSIONS};
+use crate::bench::BENCH_SLOTS;
+use crate::job::{
+    decode, item, longest_file, width, Item, Job, Model, Value, Width, MOST_INSTRUCTIONS, VERSIONS,
+};
 use crate::listed::AT_THE_START;
 use crate::machine::{reason, successors, Reason, State, Step, SLOT_BYTES};
 use crate::search::search;
@@ -89,7 +92,7 @@ pub fn random_bytes(random: &mut Random) -> Vec<u8> {
 /// The same, where a good front has this version.
 pub fn random_bytes_of(random: &mut Random, version: u8) -> Vec<u8> {
     // The last is a little more than a file may have.
-    let most_bytes = random.pick(&[4, 20, 60, LONGEST_FILE + 23]);
+    let most_bytes = random.pick(&[4, 20, 60, longest_file(version) + 23]);
     // Small bytes mean something far more often than large ones.
     let bound = random.pick(&[3, 10, 256]);
     let count = random.between(0, most_bytes);
@@ -129,31 +132,71 @@ fn fix_length(bytes: &mut [u8]) {
 
 // ---- (b) sound jobs ----
 
+/// What a job is drawn from.
+#[derive(Clone, Copy, Debug)]
+struct Source {
+    /// It says which operations there are, and how wide values are.
+    version: u8,
+    /// Most values are of these, so that conditions come true.
+    few: [Value; 3],
+}
+
+impl Source {
+    fn width(self) -> Width {
+        width(self.version)
+    }
+}
+
+/// Small values, or where there are others also such as are like them in one of their bytes, or with their bytes exchanged.
+fn some_source(random: &mut Random, version: u8) -> Source {
+    let small = [0, 1, 2];
+    let few = match width(version).bytes() {
+        1 => small,
+        _ => random.pick(&[
+            small,
+            [0, 1, 256],
+            [0, 256, 257],
+            [0, 256, 512],
+            [256, 257, 258],
+            [256, 257, 511],
+            [1, 257, 513],
+            [1, 255, 256],
+            [1, 255, 65_535],
+        ]),
+    };
+    Source { version, few }
+}
+
 /// A job file in pieces; count bytes stand apart from what they count, so that they can lie.
 #[derive(Clone, Debug)]
 struct Draft {
-    /// The version whose operations it has; the version byte may lie.
-    drawn_for: u8,
+    /// The version byte may lie.
+    drawn_from: Source,
     version: u8,
     model: u8,
     capacity: u8,
     thread_count: u8,
     variable_count: u8,
-    initial: Vec<u8>,
+    initial: Vec<Value>,
     programs: Vec<Program>,
     flag: u8,
     clause_count: u8,
-    clauses: Vec<[u8; 4]>,
+    clauses: Vec<Item>,
 }
 
 #[derive(Clone, Debug)]
 struct Program {
     count: u8,
-    instructions: Vec<[u8; 4]>,
+    instructions: Vec<Item>,
 }
 
 impl Draft {
     fn bytes(&self) -> Vec<u8> {
+        let width = self.drawn_from.width();
+        let in_file = |items: &[Item]| -> Vec<u8> {
+            let bytes = items.iter().flat_map(|item| item.in_file(width));
+            bytes.collect()
+        };
         let header = [
             self.model,
             self.capacity,
@@ -162,13 +205,13 @@ impl Draft {
         ];
         let mut bytes = vec![0, 0, self.version];
         bytes.extend(header);
-        bytes.extend(&self.initial);
+        bytes.extend(self.initial.iter().flat_map(|&value| width.in_file(value)));
         for program in &self.programs {
             bytes.push(program.count);
-            bytes.extend(program.instructions.iter().flatten());
+            bytes.extend(in_file(&program.instructions));
         }
         bytes.extend([self.flag, self.clause_count]);
-        bytes.extend(self.clauses.iter().flatten());
+        bytes.extend(in_file(&self.clauses));
         fix_length(&mut bytes);
         bytes
     }
@@ -208,6 +251,7 @@ fn draft_with_any_goal(random: &mut Random, version: u8, longest: bool) -> Draft
         random.pick(&[1, 1, 2, 2, 2, 2, 3, 3, 4])
     };
     let variables = if longest { 8 } else { some_variables(random) };
+    let source = some_source(random, version);
     let mut programs = Vec::new();
     for _ in 0..threads {
         let count = if longest {
@@ -215,22 +259,21 @@ fn draft_with_any_goal(random: &mut Random, version: u8, longest: bool) -> Draft
         } else {
             some_count(random)
         };
-        let operations = some_operations(random, version);
-        programs.push(sound_program(random, operations, count, variables));
+        programs.push(sound_program(random, source, count, variables));
     }
     Draft {
-        drawn_for: version,
+        drawn_from: source,
         version,
         model,
         capacity: some_capacity(random, model),
         thread_count: threads,
         variable_count: variables as u8,
-        initial: (0..variables).map(|_| some_value(random)).collect(),
+        initial: (0..variables).map(|_| some_value(random, source)).collect(),
         programs,
         flag: random.below(2) as u8,
         // A job without a goal is refused, so this one stands in until a walk shows a better one.
         clause_count: 1,
-        clauses: vec![AT_THE_START],
+        clauses: vec![AT_THE_START.into()],
     }
 }
 
@@ -243,13 +286,14 @@ fn fill_with_groups(random: &mut Random, draft: &mut Draft) {
     draft.initial.resize(variables, 0);
     draft.programs.truncate(random.pick(&[1, 1, 2]));
     draft.thread_count = draft.programs.len() as u8;
+    let source = draft.drawn_from;
     for program in &mut draft.programs {
-        *program = grouped_program(random, variables);
+        *program = grouped_program(random, source, variables);
     }
 }
 
 /// A store or two, a WFENCE and now and then a load, over and over.
-fn grouped_program(random: &mut Random, variables: usize) -> Program {
+fn grouped_program(random: &mut Random, source: Source, variables: usize) -> Program {
     let [stores, wfence, loads, waits]: [&[u8]; 4] = [&[4, 5, 5, 5], &[11], &[3], &[10, 10, 6, 7]];
     let mut kinds = Vec::new();
     for _ in 0..random.between(1, 4) {
@@ -260,7 +304,8 @@ fn grouped_program(random: &mut Random, variables: usize) -> Program {
     }
     let count = kinds.len();
     let instructions = kinds.into_iter();
-    let instructions = instructions.map(|kind| sound_instruction(random, kind, count, variables));
+    let instructions =
+        instructions.map(|kind| sound_instruction(random, source, kind, count, variables));
     Program {
         count: count as u8,
         instructions: instructions.collect(),
@@ -294,34 +339,33 @@ fn some_count(random: &mut Random) -> usize {
     }
 }
 
-/// Small values mostly, so that conditions come true; edges sometimes, so that sums wrap.
-fn some_value(random: &mut Random) -> u8 {
-    match random.below(10) {
-        0 => random.byte(),
-        1 => random.pick(&[127, 128, 254, 255]),
-        _ => random.below(3) as u8,
+/// Few values mostly, so that conditions come true; edges sometimes, so that sums wrap.
+fn some_value(random: &mut Random, source: Source) -> Value {
+    let chance = random.below(10);
+    match (source.width().bytes(), chance) {
+        (1, 0) => random.byte().into(),
+        (_, 0) => random.word() as Value,
+        (1, 1) => random.pick(&[127, 128, 254, 255]),
+        (_, 1) => random.pick(&[255, 256, 32_767, 32_768, 65_280, 65_534, 65_535]),
+        _ => source.few[random.below(3)],
     }
 }
 
-fn sound_program(
-    random: &mut Random,
-    operations: &[u8],
-    count: usize,
-    variables: usize,
-) -> Program {
+fn sound_program(random: &mut Random, source: Source, count: usize, variables: usize) -> Program {
+    let operations = some_operations(random, source.version);
     let front = quiet_front(random, count);
-    let mut instructions: Vec<[u8; 4]> = (0..count)
+    let mut instructions: Vec<Item> = (0..count)
         .map(|place| {
             if place < front {
-                quiet_instruction(random)
+                quiet_instruction(random, source)
             } else {
-                sound_instruction(random, operations, count, variables)
+                sound_instruction(random, source, operations, count, variables)
             }
         })
         .collect();
     if front > 0 && random.percent(60) {
         // Short walks and searches get past the front, too.
-        instructions[0] = [9, 0, front as u8, 0];
+        instructions[0] = item(9, 0, front as u8, 0);
     }
     Program {
         count: count as u8,
@@ -338,9 +382,10 @@ fn quiet_front(random: &mut Random, count: usize) -> usize {
     }
 }
 
-fn quiet_instruction(random: &mut Random) -> [u8; 4] {
+fn quiet_instruction(random: &mut Random, source: Source) -> Item {
     let register = random.below(4) as u8;
-    [random.pick(&[1, 2]), register, 0, some_value(random)]
+    let op = random.pick(&[1, 2]);
+    item(op, register, 0, some_value(random, source))
 }
 
 /// The operations that a program is drawn from, those that make threads meet more often than others.
@@ -348,7 +393,11 @@ fn some_operations(random: &mut Random, version: u8) -> &'static [u8] {
     match version {
         1 => &OF_VERSION_ONE,
         _ if random.percent(10) => &OF_VERSION_ONE,
-        _ => &[1, 2, 3, 3, 3, 4, 4, 5, 5, 5, 6, 7, 8, 9, 10, 10, 11, 11],
+        2 => &[1, 2, 3, 3, 3, 4, 4, 5, 5, 5, 6, 7, 8, 9, 10, 10, 11, 11],
+        // More that looks at both bytes.
+        _ => &[
+            1, 2, 2, 2, 3, 3, 3, 4, 4, 5, 5, 5, 6, 7, 8, 8, 9, 10, 10, 11, 11,
+        ],
     }
 }
 
@@ -356,22 +405,23 @@ const OF_VERSION_ONE: [u8; 14] = [1, 2, 3, 3, 3, 4, 4, 5, 5, 5, 6, 7, 8, 9];
 
 fn sound_instruction(
     random: &mut Random,
+    source: Source,
     operations: &[u8],
     count: usize,
     variables: usize,
-) -> [u8; 4] {
+) -> Item {
     let register = random.pick(&[0, 0, 0, 1, 1, 2, 3]);
     let variable = random.below(variables) as u8;
     let place = random.between(0, count) as u8;
-    let value = some_value(random);
+    let value = some_value(random, source);
     match random.pick(operations) {
-        op @ (1 | 2) => [op, register, 0, value],
-        op @ (3 | 4 | 7) => [op, register, variable, 0],
-        5 => [5, 0, variable, value],
-        op @ (6 | 11) => [op, 0, 0, 0],
-        8 => [8, register, place, value],
-        9 => [9, 0, place, 0],
-        10 => [10, register, variable, value],
+        op @ (1 | 2) => item(op, register, 0, value),
+        op @ (3 | 4 | 7) => item(op, register, variable, 0),
+        5 => item(5, 0, variable, value),
+        op @ (6 | 11) => item(op, 0, 0, 0),
+        8 => item(8, register, place, value),
+        9 => item(9, 0, place, 0),
+        10 => item(10, register, variable, value),
         other => panic!("{other} is no operation"),
     }
 }
@@ -383,14 +433,14 @@ fn choose_goal(random: &mut Random, draft: &mut Draft, longest: bool) {
     } else {
         some_clause_count(random)
     };
-    let mut clauses: Vec<[u8; 4]> = (0..count).map(|_| clause_about(random, &state)).collect();
+    let mut clauses: Vec<Item> = (0..count).map(|_| clause_about(random, &state)).collect();
     if random.percent(40) {
         // Naming all places keeps the goal far from the start.
         let places = state.threads.iter().enumerate();
-        clauses.extend(places.map(|(thread, t)| [1, thread as u8, 0, t.place as u8]));
+        clauses.extend(places.map(|(thread, t)| item(1, thread as u8, 0, t.place as Value)));
     }
     if random.percent(25) {
-        spoil_a_clause(random, &mut clauses);
+        spoil_a_clause(random, draft.drawn_from, &mut clauses);
     }
     if random.percent(10) {
         contradict_a_clause(random, draft, &mut clauses);
@@ -450,8 +500,8 @@ fn choose_goal_without_wfences(random: &mut Random, draft: &mut Draft) {
     let places = (0..).zip(&state.threads);
     let memory = (0..).zip(&state.memory);
     draft.clauses = places
-        .map(|(thread, own)| [1, thread, 0, own.place as u8])
-        .chain(memory.map(|(variable, &value)| [3, variable, 0, value]))
+        .map(|(thread, own)| item(1, thread, 0, own.place as Value))
+        .chain(memory.map(|(variable, &value)| item(3, variable, 0, value)))
         .collect();
     draft.clause_count = draft.clauses.len() as u8;
 }
@@ -461,44 +511,45 @@ fn without_wfences(draft: &Draft) -> Draft {
     let mut changed = draft.clone();
     let programs = changed.programs.iter_mut();
     for instruction in programs.flat_map(|program| &mut program.instructions) {
-        if instruction[0] == 11 {
-            *instruction = [2, 0, 0, 0];
+        if instruction.first == 11 {
+            *instruction = item(2, 0, 0, 0);
         }
     }
     changed
 }
 
 /// A clause that is true of the state.
-fn clause_about(random: &mut Random, state: &State) -> [u8; 4] {
+fn clause_about(random: &mut Random, state: &State) -> Item {
     let thread = random.below(state.threads.len());
     let register = random.below(4);
     let variable = random.below(state.memory.len());
     match random.below(3) {
-        0 => [1, thread as u8, 0, state.threads[thread].place as u8],
-        1 => [
-            2,
-            thread as u8,
-            register as u8,
-            state.threads[thread].registers[register],
-        ],
-        _ => [3, variable as u8, 0, state.memory[variable]],
+        0 => item(1, thread as u8, 0, state.threads[thread].place as Value),
+        1 => {
+            let value = state.threads[thread].registers[register];
+            item(2, thread as u8, register as u8, value)
+        }
+        _ => item(3, variable as u8, 0, state.memory[variable]),
     }
 }
 
 /// Asks for another value, which is often never reached; places stay in their range.
-fn spoil_a_clause(random: &mut Random, clauses: &mut [[u8; 4]]) {
+fn spoil_a_clause(random: &mut Random, source: Source, clauses: &mut [Item]) {
     let index = random.below(clauses.len());
-    if clauses[index][0] != 1 {
-        clauses[index][3] = some_value(random);
+    if clauses[index].first != 1 {
+        clauses[index].k = some_value(random, source);
     }
 }
 
 /// Adds a second clause about the same thing, sometimes equal and mostly at odds.
-fn contradict_a_clause(random: &mut Random, draft: &Draft, clauses: &mut Vec<[u8; 4]>) {
+fn contradict_a_clause(random: &mut Random, draft: &Draft, clauses: &mut Vec<Item>) {
     let mut rival = clauses[random.below(clauses.len())];
-    rival[3] = match rival[0] {
-        1 => random.between(0, usize::from(draft.programs[usize::from(rival[1])].count)) as u8,
-        2 | 3 => some_value(random),
+    rival.k = match rival.first {
+        1 => {
+            let count = draft.programs[usize::from(rival.a)].count;
+            random.between(0, usize::from(count)) as Value
+        }
+        2 | 3 => some_value(random, draft.drawn_from),
         0 | 4..=255 => panic!("{rival:?} is no clause"),
     };
     clauses.insert(0, rival);
@@ -599,11 +650,12 @@ fn push_to_edge(random: &mut Random, draft: &mut Draft) {
     }
 }
 
-/// Numbers that are no version in later requests either; for a job that may have CMPX and WFENCE also 1, which has neither.
+/// Numbers that are no version in later requests either; for a job that may have CMPX and WFENCE also 1, which has neither, and for one of wide values also those that have none.
 fn edge_version(random: &mut Random, draft: &mut Draft) {
-    draft.version = match draft.drawn_for {
+    draft.version = match draft.drawn_from.version {
         1 => random.pick(&[0, 4, 255]),
-        _ => random.pick(&[0, 1, 1, 1, 4, 255]),
+        2 => random.pick(&[0, 1, 1, 1, 4, 255]),
+        _ => random.pick(&[0, 1, 2, 2, 4, 255]),
     };
 }
 
@@ -612,8 +664,7 @@ fn edge_thread_count(random: &mut Random, draft: &mut Draft) {
     if random.percent(60) {
         let count = some_count(random);
         let variables = draft.initial.len().max(1);
-        let operations = some_operations(random, draft.drawn_for);
-        let filler = sound_program(random, operations, count, variables);
+        let filler = sound_program(random, draft.drawn_from, count, variables);
         draft
             .programs
             .resize(usize::from(draft.thread_count), filler);
@@ -640,10 +691,7 @@ fn edge_program_count(random: &mut Random, draft: &mut Draft) {
             count: count as u8,
             instructions: draft.programs[thread].instructions.clone(),
         },
-        _ => {
-            let operations = some_operations(random, draft.drawn_for);
-            sound_program(random, operations, count, variables)
-        }
+        _ => sound_program(random, draft.drawn_from, count, variables),
     };
 }
 
@@ -652,12 +700,12 @@ fn edge_clause_count(random: &mut Random, draft: &mut Draft) {
     if random.percent(70) {
         draft
             .clauses
-            .resize(usize::from(draft.clause_count), [3, 0, 0, 0]);
+            .resize(usize::from(draft.clause_count), item(3, 0, 0, 0));
     }
 }
 
 fn edge_instruction(random: &mut Random, draft: &mut Draft) {
-    let version = draft.drawn_for;
+    let source = draft.drawn_from;
     let variables = draft.variable_count;
     let filled = |program: &&mut Program| !program.instructions.is_empty();
     let mut programs: Vec<&mut Program> = draft.programs.iter_mut().filter(filled).collect();
@@ -667,14 +715,16 @@ fn edge_instruction(random: &mut Random, draft: &mut Draft) {
     let chosen = random.below(programs.len());
     let count = programs[chosen].count;
     let place = random.below(programs[chosen].instructions.len());
-    programs[chosen].instructions[place] = instruction_at_edge(random, version, count, variables);
+    programs[chosen].instructions[place] = instruction_at_edge(random, source, count, variables);
 }
 
-fn instruction_at_edge(random: &mut Random, version: u8, count: u8, variables: u8) -> [u8; 4] {
+fn instruction_at_edge(random: &mut Random, source: Source, count: u8, variables: u8) -> Item {
+    let Source { version, .. } = source;
+    let width = source.width();
     let register = random.pick(&[0, 3, 3, 4, 255]);
     let variable = random.pick(&[0, variables.wrapping_sub(1), variables, 255]);
     let place = random.pick(&[0, count, count, count.wrapping_add(1), 255]);
-    let value = some_value(random);
+    let value = some_value(random, source);
     // Bytes that must be 0 are 0 mostly, so that the operand is what is judged.
     let zero = random.pick(&[0, 0, 0, 0, 1, 255]);
     let other_zero = random.pick(&[0, 0, 0, 0, 1]);
@@ -685,16 +735,27 @@ fn instruction_at_edge(random: &mut Random, version: u8, count: u8, variables: u
         ],
     };
     match random.pick(tried) {
-        op @ (1 | 2) => [op, register, zero, value],
-        op @ (3 | 4 | 7) => [op, register, variable, zero],
-        5 => [5, zero, variable, value],
-        6 => [6, zero, other_zero, random.pick(&[0, 0, 0, 1])],
-        8 => [8, register, place, value],
-        9 => [9, zero, place, other_zero],
-        10 if version > 1 => [10, register, variable, value],
-        11 => [11, zero, other_zero, random.pick(&[0, 0, 0, 1])],
+        op @ (1 | 2) => item(op, register, zero, value),
+        op @ (3 | 4 | 7) => item(op, register, variable, in_some_byte(random, width, zero)),
+        5 => item(5, zero, variable, value),
+        op @ (6 | 11) => {
+            let last = random.pick(&[0, 0, 0, 1]);
+            item(op, zero, other_zero, in_some_byte(random, width, last))
+        }
+        8 => item(8, register, place, value),
+        9 => item(9, zero, place, in_some_byte(random, width, other_zero)),
+        10 if version > 1 => item(10, register, variable, value),
         // All operands 0 would be in range anywhere, so only the number can be at fault.
-        op => [op, 0, 0, 0],
+        op => item(op, 0, 0, 0),
+    }
+}
+
+/// A k of which this is one byte, the low one or the high one, and the other 0.
+fn in_some_byte(random: &mut Random, width: Width, byte: u8) -> Value {
+    let low = Value::from(byte);
+    match width.bytes() {
+        1 => low,
+        _ => random.pick(&[low, low << 8]),
     }
 }
 
@@ -709,7 +770,8 @@ fn edge_clause(random: &mut Random, draft: &mut Draft) {
     }
 }
 
-fn clause_at_edge(random: &mut Random, draft: &Draft) -> [u8; 4] {
+fn clause_at_edge(random: &mut Random, draft: &Draft) -> Item {
+    let source = draft.drawn_from;
     let last = draft.thread_count.wrapping_sub(1);
     let thread = random.pick(&[0, last, last, draft.thread_count]);
     let count = draft
@@ -721,12 +783,26 @@ fn clause_at_edge(random: &mut Random, draft: &Draft) -> [u8; 4] {
     let variables = draft.variable_count;
     let variable = random.pick(&[0, variables.wrapping_sub(1), variables, 255]);
     let zero = random.pick(&[0, 0, 0, 1, 255]);
-    let value = some_value(random);
+    let value = some_value(random, source);
     match random.pick(&[0, 1, 1, 1, 2, 2, 3, 3, 4, 255]) {
-        1 => [1, thread, zero, place],
-        2 => [2, thread, register, value],
-        3 => [3, variable, zero, value],
-        kind => [kind, 0, 0, 0],
+        1 => item(
+            1,
+            thread,
+            zero,
+            about_the_place(random, source.width(), place),
+        ),
+        2 => item(2, thread, register, value),
+        3 => item(3, variable, zero, value),
+        kind => item(kind, 0, 0, 0),
+    }
+}
+
+/// Where a place has two bytes, now and then another one that has this place in one of them.
+fn about_the_place(random: &mut Random, width: Width, place: u8) -> Value {
+    let place = Value::from(place);
+    match width.bytes() {
+        1 => place,
+        _ => random.pick(&[place, place, place, 256 + place, place << 8]),
     }
 }
 
@@ -751,7 +827,7 @@ pub fn buffer_sizes(random: &mut Random, job: &[u8]) -> Sizes {
             let slots = random.between(1, 40);
             narrowed(random, slots)
         }
-        2 => narrowed(random, 640),
+        2 => narrowed(random, BENCH_SLOTS),
         3 => {
             let slots = random.between(1, PROBE_SLOTS);
             narrowed(random, slots)
@@ -765,7 +841,17 @@ pub fn buffer_sizes(random: &mut Random, job: &[u8]) -> Sizes {
 
 fn tiny_sizes(random: &mut Random) -> Sizes {
     Sizes {
-        table: random.pick(&[0, 1, 95, 96, 97, 191, 192, 193, 960]),
+        table: random.pick(&[
+            0,
+            1,
+            SLOT_BYTES - 1,
+            SLOT_BYTES,
+            SLOT_BYTES + 1,
+            2 * SLOT_BYTES - 1,
+            2 * SLOT_BYTES,
+            2 * SLOT_BYTES + 1,
+            10 * SLOT_BYTES,
+        ]),
         links: random.pick(&[0, 1, 2, 3, 10]),
         schedule: random.pick(&[0, 1, 2, 3, 10]),
     }
@@ -788,7 +874,7 @@ fn around_the_count(random: &mut Random, job: &[u8]) -> usize {
 /// Makes N equal `slots`, with any of the three buffers the smallest.
 fn narrowed(random: &mut Random, slots: usize) -> Sizes {
     let spare = random.pick(&[0, 0, 1, 7]);
-    let part_of_a_slot = random.pick(&[0, 0, 1, 95]);
+    let part_of_a_slot = random.pick(&[0, 0, 1, SLOT_BYTES - 1]);
     let table = slots * SLOT_BYTES + part_of_a_slot;
     let roomy_table = table + spare * SLOT_BYTES;
     match random.below(4) {

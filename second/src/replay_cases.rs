@@ -12,8 +12,9 @@ use crate::random::{damaged_job_of, found_schedule, replay_schedule, sound_job_o
 use crate::reason_cases;
 use crate::reasons::{of_replay, of_replays};
 use crate::replay::replay;
+use crate::version_three_jobs::refused_of_three;
 use crate::version_two_jobs::{refused_about_versions, refused_in_both};
-use crate::{version_two, version_two_replays};
+use crate::{version_three, version_three_replays, version_two, version_two_replays};
 use std::slice;
 
 /// A job, and the schedule that is replayed on it.
@@ -70,7 +71,7 @@ pub(crate) fn known(job: &[u8], schedule: &[u8], line: &str) -> Known {
     (case(job, schedule), line.to_string())
 }
 
-/// Those of version 2 come behind those of version 1, which stay where they were.
+/// Those of version 2 come behind those of version 1, and those of version 3 behind these; all stay where they were.
 pub fn all() -> Vec<Case> {
     let without_line = |known: Vec<Known>| known.into_iter().map(|(case, _)| case).collect();
     [
@@ -80,13 +81,28 @@ pub fn all() -> Vec<Case> {
         reason_cases::random_cases(),
         without_line(known_of_version_two()),
         version_two_replays::random_cases(),
+        without_line(known_of_version_three()),
+        version_three_replays::random_cases(),
     ]
     .concat()
 }
 
 /// The cases whose lines a person can say.
 pub fn all_known() -> Vec<Known> {
-    [known_of_version_one(), known_of_version_two()].concat()
+    [
+        known_of_version_one(),
+        known_of_version_two(),
+        known_of_version_three(),
+    ]
+    .concat()
+}
+
+fn known_of_version_three() -> Vec<Known> {
+    [
+        version_three_replays::all_known(),
+        with_any_schedule(refused_of_three()),
+    ]
+    .concat()
 }
 
 fn known_of_version_two() -> Vec<Known> {
@@ -152,6 +168,17 @@ pub fn counts_of_version_two() -> Counts {
     let met = |case: &Case| {
         let of_replay = version_two::of_replay(&case.job, &case.schedule);
         [version_two::of_job(&case.job), of_replay].concat()
+    };
+    let met: Vec<_> = all().iter().map(met).collect();
+    Counts::new(&classes, &met)
+}
+
+/// How many cases are of version 3, and what they meet, by class.
+pub fn counts_of_version_three() -> Counts {
+    let classes = [version_three::of_jobs(), version_three::of_replays()].concat();
+    let met = |case: &Case| {
+        let of_replay = version_three::of_replay(&case.job, &case.schedule);
+        [version_three::of_job(&case.job), of_replay].concat()
     };
     let met: Vec<_> = all().iter().map(met).collect();
     Counts::new(&classes, &met)

@@ -4,19 +4,24 @@ use crate::classes::Counts;
 use crate::job::MOST_INSTRUCTIONS;
 use crate::listed::{
     accepted_list, at_the_limit, bench_list, blank_goals, classics, every_memory,
-    fewest_and_most_clauses, file, in_version, p12, refused_jobs, too_long_threads, Memory,
-    Program, Refused, AT_THE_START, COUNT, FURTHEST_PLACE, MEMORIES, P1, PSO, TSO,
+    fewest_and_most_clauses, file, in_version, p12, refused_jobs, too_long_threads, under, Memory,
+    Program, Refused, AT_THE_START, COUNT, FURTHEST_PLACE, MEMORIES, P1, PSO, SC, TSO,
 };
 use crate::long_threads::{ends_high, of_job, HIGH_GOAL, MOST_BEFORE, OF_JOBS};
 use crate::machine::SLOT_BYTES;
 use crate::random::{buffer_sizes, sound_job_of, Random, Sizes};
 use crate::search::search;
-use crate::version_two;
+use crate::version_three_jobs::{
+    self, add, at_the_limit_of_three, classics_of_three, file_of_three, in_three, is_at, jump,
+    load, message_passing, put, raised, refused_of_three, set, store, wide_groups,
+    VERSION as THREE,
+};
 use crate::version_two_jobs::{
     classics_of_two, file_of_two, message_passing_by_wfence, refused_about_versions,
     refused_in_both, WFENCE,
 };
 use crate::version_two_replays::grouped_job;
+use crate::{version_three, version_two};
 
 /// A job, and how much of each memory is lent for it.
 #[derive(Clone)]
@@ -118,6 +123,7 @@ pub fn all() -> Vec<Case> {
         about_the_longest_way(),
         beside_a_long_thread(),
         of_version_two(),
+        of_version_three(),
     ];
     groups.concat()
 }
@@ -132,6 +138,21 @@ fn of_version_two() -> Vec<Case> {
         every_room_of_two(),
         full_of_groups(),
         random_jobs_of_two(),
+    ];
+    groups.concat()
+}
+
+/// These come behind those of version 2.
+fn of_version_three() -> Vec<Case> {
+    let groups = [
+        with_and_without_room(refused_of_three()),
+        as_in_the_others(),
+        about_the_count_of_three(),
+        every_room_of_three(),
+        full_of_wide_groups(),
+        counters_of_three(),
+        sums_of_three(),
+        random_jobs_of_three(),
     ];
     groups.concat()
 }
@@ -160,6 +181,20 @@ pub fn counts_of_long_threads() -> Counts {
 /// How many cases are of version 2, and what their slots and answers show, by class.
 pub fn counts_of_version_two() -> Counts {
     let classes = [&version_two::of_jobs()[..], &version_two::OF_SEARCHES].concat();
+    counts(&classes, version_two::of_job, version_two::of_search)
+}
+
+/// How many cases are of version 3, and what their slots and answers show, by class.
+pub fn counts_of_version_three() -> Counts {
+    let classes = [version_three::of_jobs(), version_three::of_searches()].concat();
+    counts(&classes, version_three::of_job, version_three::of_search)
+}
+
+fn counts(
+    classes: &[&'static str],
+    of_job: fn(&[u8]) -> Vec<&'static str>,
+    of_search: fn(&[u8], version_two::Searched) -> Vec<&'static str>,
+) -> Counts {
     let met = |case: &Case| {
         let Searched {
             answer,
@@ -172,11 +207,10 @@ pub fn counts_of_version_two() -> Counts {
             table: &table,
             schedule: &schedule,
         };
-        let of_search = version_two::of_search(&case.job, left);
-        [version_two::of_job(&case.job), of_search].concat()
+        [of_job(&case.job), of_search(&case.job, left)].concat()
     };
     let met: Vec<_> = all().iter().map(met).collect();
-    Counts::new(&classes, &met)
+    Counts::new(classes, &met)
 }
 
 /// Just so many slots, the table, the links or the schedule being the smallest by turns.
@@ -262,7 +296,11 @@ fn fits(sizes: Sizes) -> bool {
 /// Table bytes about whole slots, and buffers of few elements or none.
 fn narrow_buffers() -> Vec<Case> {
     let mut cases = Vec::new();
-    for table in [0, 1, 95, 96, 97, 191, 192, 193, 2111, 2112, 2113] {
+    let about_whole_slots = [1, 2, 22].map(|slots| {
+        let whole = slots * SLOT_BYTES;
+        [whole - 1, whole, whole + 1]
+    });
+    for table in [vec![0, 1], about_whole_slots.concat()].concat() {
         for links in [0, 1, 21, 22, ROOM.links] {
             for schedule in [0, 1, 3, 4, 21, 22, ROOM.schedule] {
                 let sizes = Sizes {
@@ -460,6 +498,120 @@ fn random_jobs_of_two() -> Vec<Case> {
             sound_job_of(&mut random, 2)
         } else {
             grouped_job(&mut random, 2, 6, NEVER)
+        };
+        let sizes = within_the_room(buffer_sizes(&mut random, &job));
+        cases.push(Case { sizes, job });
+    }
+    cases
+}
+
+/// The bench list, the classics and those of version 2, as they stand and with each value times 256.
+fn as_in_the_others() -> Vec<Case> {
+    let mut jobs = accepted_list();
+    jobs.extend(MEMORIES.into_iter().flat_map(classics));
+    jobs.extend(MEMORIES.into_iter().flat_map(classics_of_two));
+    let of_three = jobs.iter().flat_map(|job| [in_three(job), raised(job)]);
+    let cases = of_three.map(|job| Case { sizes: ROOM, job });
+    cases.collect()
+}
+
+fn about_the_count_of_three() -> Vec<Case> {
+    let jobs = every_memory().into_iter().flat_map(classics_of_three);
+    jobs.flat_map(|job| about_what_is_needed(&job)).collect()
+}
+
+/// Jobs whose levels have slots with wide values in registers, memory and groups, in every room up to one more than is needed.
+fn every_room_of_three() -> Vec<Case> {
+    let mut cases = Vec::new();
+    for job in [message_passing([PSO, 2]), wide_groups([PSO, 3])] {
+        let rooms = 0..=count(&job) + 1;
+        cases.extend(rooms.map(|slots| lent(&job, slots, slots)));
+    }
+    cases
+}
+
+/// As many wide stores as the buffer holds, each in a group of its own or two in one; values that are told apart by one byte alone.
+fn full_of_wide_groups() -> Vec<Case> {
+    let mut cases = Vec::new();
+    for memory in every_memory() {
+        for variables in [2, 8] {
+            let mut program = Vec::new();
+            for k in 0..=memory[1].max(1) {
+                let value = [0x0100, 0xFF00, 0x00FF][usize::from(k % 3)] * u16::from(k / 3 + 1);
+                program.push(put(k % variables, value));
+                if k % 2 == variables / 8 {
+                    program.push(version_three_jobs::WFENCE);
+                }
+            }
+            let initial: Vec<u16> = (0..u16::from(variables)).map(|v| 0x0102 * v).collect();
+            let job = file_of_three(memory, &initial, &[program], 0, &[NEVER.into()]);
+            cases.extend(about_what_is_needed(&job));
+        }
+    }
+    cases
+}
+
+/// Counters that pass 255, that wrap at 65,536, and that no room holds; the longest way and the longest file.
+fn counters_of_three() -> Vec<Case> {
+    let mut cases = Vec::new();
+    for memory in MEMORIES {
+        for (k, turns) in [(1, 130), (2, 130), (0x8000, 2), (0x4000, 4), (0xFF01, 130)] {
+            // Two states a turn, and it comes back to the start where k goes into 65,536.
+            let counter = vec![add(1, k), jump(0)];
+            let asked = version_three_jobs::register_is(0, 1, k.wrapping_mul(turns));
+            let goal = [is_at(0, 1), asked];
+            let job = file_of_three(memory, &[0], &[counter], 0, &goal);
+            cases.extend(about_what_is_needed(&job));
+        }
+        let job = under(&at_the_limit_of_three(), memory);
+        cases.push(Case { sizes: ROOM, job });
+        let two = vec![vec![add(0, 0x0100), jump(0)]; 2];
+        let job = file_of_three(memory, &[0], &two, 0, &[NEVER.into()]);
+        cases.push(Case { sizes: ROOM, job });
+        cases.extend(about_what_is_needed(&raised(&long_way(
+            memory,
+            MOST_INSTRUCTIONS,
+        ))));
+    }
+    cases
+}
+
+/// Sums that carry and that wrap, on their way through a buffer; all states are counted.
+fn sums_of_three() -> Vec<Case> {
+    let mut cases = Vec::new();
+    let sums = [
+        (65_535, 1),
+        (255, 1),
+        (65_280, 256),
+        (0x8000, 0x8000),
+        (0x12FF, 0xED02),
+    ];
+    for (turn, (before, k)) in sums.into_iter().enumerate() {
+        for memory in [SC, [TSO, 1], [PSO, 1 + turn as u8]] {
+            let program = vec![set(0, before), add(0, k), store(0, 1), load(1, 1)];
+            let job = file_of_three(memory, &[k, before], &[program], 0, &[NEVER.into()]);
+            cases.extend(about_what_is_needed(&job));
+            // As often as it takes to come back to the start.
+            let round = vec![add(1, 0x1000 << (turn % 4)), jump(0)];
+            let job = file_of_three(memory, &[before], &[round], 0, &[NEVER.into()]);
+            cases.extend(about_what_is_needed(&job));
+        }
+    }
+    cases
+}
+
+const SOUND_JOBS_OF_THREE: usize = 100;
+const GROUPED_JOBS_OF_THREE: usize = 60;
+const SEED_OF_THREE: u64 = 12;
+
+fn random_jobs_of_three() -> Vec<Case> {
+    let mut random = Random::new(SEED_OF_THREE);
+    let mut cases = Vec::new();
+    for turn in 0..SOUND_JOBS_OF_THREE + GROUPED_JOBS_OF_THREE {
+        let job = if turn < SOUND_JOBS_OF_THREE {
+            sound_job_of(&mut random, THREE)
+        } else {
+            raised(&grouped_job(&mut random, 2, 6, NEVER))
         };
         let sizes = within_the_room(buffer_sizes(&mut random, &job));
         cases.push(Case { sizes, job });

@@ -1,9 +1,11 @@
 //! Version 2 of the job file, which request 7 brought: what CMPX and WFENCE do in a job and in its calls, told once for the run cases and for the comparison.
+//!
+//! Version 3 has the same operations, so what tells of them takes the version that is counted (`of_job_in` and so on).
 
 use crate::buffer::Buffer;
 use crate::classes::those_met;
 use crate::fences::open_pairs;
-use crate::job::{decode, Instruction, Job, Model, Refusal};
+use crate::job::{decode, width, Instruction, Job, Model, Refusal};
 use crate::machine::{reason, step, Reason, State, Step, SLOT_BYTES};
 use crate::random::found_schedule;
 use std::collections::BTreeSet;
@@ -39,10 +41,15 @@ pub fn of_jobs() -> Vec<&'static str> {
 
 /// The classes of `of_jobs` that a job is in.
 pub fn of_job(job: &[u8]) -> Vec<&'static str> {
+    of_job_in(VERSION, job)
+}
+
+/// The same where jobs of this version are counted, of which version 1 is none.
+pub fn of_job_in(version: u8, job: &[u8]) -> Vec<&'static str> {
     match decode(job) {
-        Ok(accepted) if accepted.version == VERSION => of_accepted(&accepted),
+        Ok(accepted) if accepted.version == version => of_accepted(&accepted),
         Ok(_) => Vec::new(),
-        Err(refusal) => of_refused(job, refusal),
+        Err(refusal) => of_refused(version, job, refusal),
     }
 }
 
@@ -70,14 +77,14 @@ fn of_accepted(job: &Job) -> Vec<&'static str> {
     ])
 }
 
-fn of_refused(job: &[u8], refusal: Refusal) -> Vec<&'static str> {
+fn of_refused(version: u8, job: &[u8], refusal: Refusal) -> Vec<&'static str> {
     match refusal.number {
         2 => vec![NO_VERSION],
         // No n so small is refused, so this is an operation.
-        4 if matches!(job[refusal.offset], 10 | 11) => match job[2] {
-            VERSION => vec![BAD_OPERAND],
-            _ => vec![IN_VERSION_ONE],
-        },
+        4 if matches!(job[refusal.offset], 10 | 11) => those_met(&[
+            (IN_VERSION_ONE, job[2] == 1),
+            (BAD_OPERAND, job[2] == version),
+        ]),
         _ => Vec::new(),
     }
 }
@@ -139,8 +146,13 @@ pub const OF_REPLAYS: [&str; 20] = [
 
 /// The classes of `OF_REPLAYS` that a replay is in.
 pub fn of_replay(job: &[u8], schedule: &[u8]) -> Vec<&'static str> {
+    of_replay_in(VERSION, job, schedule)
+}
+
+/// The same where jobs of this version are counted.
+pub fn of_replay_in(version: u8, job: &[u8], schedule: &[u8]) -> Vec<&'static str> {
     let job = match decode(job) {
-        Ok(job) if job.version == VERSION => job,
+        Ok(job) if job.version == version => job,
         _ => return Vec::new(),
     };
     let mut met = BTreeSet::new();
@@ -306,47 +318,65 @@ pub const OF_SEARCHES: [&str; 7] = [
 ];
 
 /// What a search answered, and what it has written.
+#[derive(Clone, Copy)]
 pub struct Searched<'a> {
     pub answer: [u64; 4],
     pub table: &'a [u8],
     pub schedule: &'a [u8],
 }
 
+impl<'a> Searched<'a> {
+    /// The slots of the states that it has counted.
+    pub fn slots(&self) -> impl Iterator<Item = &'a [u8]> {
+        let counted = match self.answer {
+            [1, _, states, _] | [2 | 3, states, ..] => states,
+            _ => 0,
+        };
+        self.table.chunks_exact(SLOT_BYTES).take(counted as usize)
+    }
+
+    /// The schedule that it has found, if one is.
+    pub fn way(&self) -> &'a [u8] {
+        match self.answer {
+            [1, distance, ..] => &self.schedule[..distance as usize],
+            _ => &[],
+        }
+    }
+}
+
 /// The classes of `OF_SEARCHES` that a search is in.
 pub fn of_search(job: &[u8], searched: Searched) -> Vec<&'static str> {
-    if decode(job).map_or(true, |job| job.version != VERSION) {
+    of_search_in(VERSION, job, searched)
+}
+
+/// The same where jobs of this version are counted.
+pub fn of_search_in(version: u8, job: &[u8], searched: Searched) -> Vec<&'static str> {
+    if decode(job).map_or(true, |job| job.version != version) {
         return Vec::new();
     }
-    let Searched {
-        answer,
-        table,
-        schedule,
-    } = searched;
-    let [kind, first, second, _] = answer;
-    let (counted, way) = match kind {
-        1 => (second, &schedule[..first as usize]),
-        2 | 3 => (first, &[][..]),
-        _ => (0, &[][..]),
-    };
-    let slots = table.chunks_exact(SLOT_BYTES).take(counted as usize);
-    let mut met: BTreeSet<&str> = slots.flat_map(of_slot).collect();
+    let is_shut_out = searched.answer[0] == 2;
+    let on_the_way = of_replay_in(version, job, searched.way());
+    let mut met: BTreeSet<&str> = searched.slots().flat_map(of_slot).collect();
     met.extend(those_met(&[
-        (HELD_BY_WFENCE, kind == 2 && is_reached_without_wfences(job)),
-        (WAY_OVER_CMPX, of_replay(job, way).contains(&TAKES)),
+        (
+            HELD_BY_WFENCE,
+            is_shut_out && is_reached_without_wfences(job),
+        ),
+        (WAY_OVER_CMPX, on_the_way.contains(&TAKES)),
     ]));
     let classes = OF_SEARCHES.into_iter();
     classes.filter(|class| met.contains(class)).collect()
 }
 
-/// Read off the bytes as request 7 has them.
+/// Read off the bytes as requests 7 and 10 have them.
 fn of_slot(slot: &[u8]) -> Vec<&'static str> {
     let mut classes = Vec::new();
-    for buffer in slot[28..].chunks_exact(17) {
+    for buffer in slot[52..].chunks_exact(25) {
         let count = usize::from(buffer[0] % 128);
         let signs: BTreeSet<u8> = buffer[1..]
-            .chunks(2)
+            .chunks(3)
             .take(count)
-            .map(|pair| pair[0])
+            .map(|store| store[0])
             .collect();
         let groups = signs.iter().map(|sign| 1 + sign / 16).max().unwrap_or(0);
         let variables: BTreeSet<u8> = signs.iter().map(|sign| sign % 16).collect();
@@ -375,12 +405,13 @@ fn is_reached_without_wfences(job: &[u8]) -> bool {
 
 /// Where the instructions of an accepted file begin.
 pub fn instructions_at(job: &[u8]) -> Vec<usize> {
+    let [value, item] = [width(job[2]).bytes(), width(job[2]).item_bytes()];
     let mut places = Vec::new();
-    let mut at = 7 + usize::from(job[6]);
+    let mut at = 7 + value * usize::from(job[6]);
     for _ in 0..job[5] {
         let count = usize::from(job[at]);
-        places.extend((0..count).map(|place| at + 1 + 4 * place));
-        at += 1 + 4 * count;
+        places.extend((0..count).map(|place| at + 1 + item * place));
+        at += 1 + item * count;
     }
     places
 }
@@ -402,8 +433,13 @@ pub const OF_FENCE_CHECKS: [&str; 4] = [
 
 /// The classes of `OF_FENCE_CHECKS` that a job is in.
 pub fn of_fence_check(job: &[u8]) -> Vec<&'static str> {
+    of_fence_check_in(VERSION, job)
+}
+
+/// The same where jobs of this version are counted.
+pub fn of_fence_check_in(version: u8, job: &[u8]) -> Vec<&'static str> {
     let job = match decode(job) {
-        Ok(job) if job.version == VERSION => job,
+        Ok(job) if job.version == version => job,
         _ => return Vec::new(),
     };
     let least = |job: &Job| open_pairs(job).into_iter().next();
@@ -561,8 +597,8 @@ mod tests {
 
     /// The classes of a search in as many slots as there are to count.
     fn found(job: &[u8]) -> Vec<&'static str> {
-        let (mut table, mut schedule) = (vec![0; 640 * SLOT_BYTES], vec![0; 640]);
-        let answer = search(job, &mut table, &mut vec![0; 640], &mut schedule);
+        let (mut table, mut schedule) = (vec![0; 400 * SLOT_BYTES], vec![0; 400]);
+        let answer = search(job, &mut table, &mut vec![0; 400], &mut schedule);
         let searched = Searched {
             answer,
             table: &table,
@@ -590,18 +626,20 @@ mod tests {
         let of_buffer = |bytes: &[u8]| {
             let mut slot = vec![0; SLOT_BYTES];
             // That of the third thread.
-            slot[62..62 + bytes.len()].copy_from_slice(bytes);
+            slot[102..102 + bytes.len()].copy_from_slice(bytes);
             of_slot(&slot)
         };
         assert_eq!(of_buffer(&[0]), [""; 0]);
-        assert_eq!(of_buffer(&[2, 0, 1, 1, 1]), [""; 0]);
-        assert_eq!(of_buffer(&[129, 7, 1]), [SLOT_WITH_WFENCE]);
-        assert_eq!(of_buffer(&[2, 0, 1, 17, 1]), [SLOT_WITH_TWO]);
-        let twice = of_buffer(&[2, 3, 1, 19, 1]);
+        assert_eq!(of_buffer(&[2, 0, 0, 1, 1, 0, 1]), [""; 0]);
+        assert_eq!(of_buffer(&[129, 7, 0, 1]), [SLOT_WITH_WFENCE]);
+        // Values have no part in it.
+        assert_eq!(of_buffer(&[2, 0, 99, 1, 17, 99, 1]), [SLOT_WITH_TWO]);
+        let twice = of_buffer(&[2, 3, 0, 1, 19, 0, 1]);
         assert_eq!(twice, [SLOT_WITH_TWO, SLOT_WITH_VARIABLE]);
-        let three = of_buffer(&[131, 0, 1, 17, 1, 34, 1]);
+        let three = of_buffer(&[131, 0, 0, 1, 17, 0, 1, 34, 0, 1]);
         assert_eq!(three, [SLOT_WITH_WFENCE, SLOT_WITH_THREE]);
-        assert_eq!(of_buffer(&[4, 0, 1, 17, 1, 34, 1, 51, 1]), [SLOT_WITH_MORE]);
+        let four = of_buffer(&[4, 0, 0, 1, 17, 0, 1, 34, 0, 1, 51, 0, 1]);
+        assert_eq!(four, [SLOT_WITH_MORE]);
     }
 
     #[test]

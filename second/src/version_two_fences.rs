@@ -214,7 +214,7 @@ pub fn random_jobs() -> Vec<Vec<u8>> {
 }
 
 /// Few stores and loads among many jumps, with CMPX for many a fence and WFENCE for many another.
-fn walk_job_of_two(random: &mut Random) -> Vec<u8> {
+pub(crate) fn walk_job_of_two(random: &mut Random) -> Vec<u8> {
     let mut bytes = in_version(&walk_job(random), 2);
     for at in instructions_at(&bytes) {
         let other = match bytes[at] {

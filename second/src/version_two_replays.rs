@@ -578,7 +578,7 @@ fn eight_groups() -> Vec<Known> {
 }
 
 /// The oldest group of each has gone, so that the next is the oldest; one buffer has emptied.
-fn a_group_gone() -> Vec<Known> {
+pub(crate) fn a_group_gone() -> Vec<Known> {
     let mut programs = Vec::new();
     let mut before = Vec::new();
     for (thread, letters) in (0..).zip(["a|bc|aA", "ab|cBA", "a|A|"]) {

@@ -125,11 +125,11 @@ fn p5_add_wraps() {
 
 #[test]
 fn p6_to_p8_message_passing() {
-    let p6 = run(&message_passing(pso(2)), 640);
+    let p6 = run(&message_passing(pso(2)), 400);
     assert_eq!((p6.answer[0], p6.answer[1]), (1, 5));
     assert_eq!(p6.schedule[..5], [0x00, 0x00, 0x05, 0x01, 0x01]);
-    assert_eq!(run(&message_passing(pso(1)), 640).answer[0], 2);
-    assert_eq!(run(&message_passing(tso(2)), 640).answer[0], 2);
+    assert_eq!(run(&message_passing(pso(1)), 400).answer[0], 2);
+    assert_eq!(run(&message_passing(tso(2)), 400).answer[0], 2);
     assert!(bench_lines(&message_passing(pso(1))).ends_with("FENCED\nRELEASE\n"));
     assert!(bench_lines(&message_passing(tso(2))).ends_with("FENCED\nRELEASE\n"));
 }
@@ -165,7 +165,7 @@ fn p10_is_searched_for_its_start() {
 fn p12_a_blank_goal_is_refused_with_either_flag() {
     for flag in [0, 1] {
         assert_eq!(bench_lines(&p12(flag)), "REFUSED 5 28\nHOLD\n");
-        assert_eq!(run(&p12(flag), 640).answer, [0, 5, 28, 0]);
+        assert_eq!(run(&p12(flag), 400).answer, [0, 5, 28, 0]);
         assert_eq!(fences(&p12(flag)), [0, 5, 28, 0]);
         assert_eq!(replay(&p12(flag), &[]), [0, 5, 28, 0]);
         assert_eq!(replay(&p12(flag), &[0x24]), [0, 5, 28, 0]);
@@ -178,6 +178,7 @@ fn listed_refusals() {
     assert_eq!(bench_lines(&[0, 1, 0]), "REFUSED 2 2\nHOLD\n");
     assert_eq!(bench_lines(&[0, 1, 1]), "REFUSED 6 3\nHOLD\n");
     assert_eq!(bench_lines(&[0, 1, 2]), "REFUSED 6 3\nHOLD\n");
+    assert_eq!(bench_lines(&[0, 1, 3]), "REFUSED 6 3\nHOLD\n");
     let mut bytes = p1();
     bytes[10] = 0x0A;
     assert_eq!(bench_lines(&bytes), "REFUSED 4 10\nHOLD\n");
@@ -201,10 +202,10 @@ fn sc_is_released_only_with_the_flag_and_fenced() {
 }
 
 #[test]
-fn bench_says_unknown_640() {
+fn bench_says_unknown_400() {
     // Two counters that run freely have 65,536 states and more.
     let counter = [[2, 0, 0, 1], [9, 0, 0, 0]];
     let never = [[3, 0, 0, 9]];
     let lines = bench_lines(&job(tso(1), &[0], &[&counter, &counter], 0, &never));
-    assert_eq!(lines, "UNKNOWN 640\nFENCED\nHOLD\n");
+    assert_eq!(lines, "UNKNOWN 400\nFENCED\nHOLD\n");
 }

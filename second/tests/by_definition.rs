@@ -10,6 +10,7 @@ use std::collections::HashMap;
 
 const MOST_STEPS: usize = 8;
 const MOST_SCHEDULES: usize = 5_000;
+const SLOTS: usize = 400;
 /// No greater number is a step.
 const LAST_STEP: u8 = 35;
 
@@ -45,7 +46,7 @@ fn first_schedules(lengths: &[Vec<(Vec<u8>, State)>]) -> Vec<(Vec<u8>, State)> {
 /// True when no step leads out of these states, and they fit.
 fn is_closed(job: &Job, firsts: &[(Vec<u8>, State)]) -> bool {
     let known = |next: &State| firsts.iter().any(|(_, state)| state == next);
-    firsts.len() <= 640
+    firsts.len() <= SLOTS
         && firsts
             .iter()
             .all(|(_, state)| successors(job, state).values().all(known))
@@ -55,7 +56,7 @@ fn check_search(bytes: &[u8]) -> [u64; 4] {
     let job = decode(bytes).unwrap();
     let lengths = all_schedules(&job);
     let firsts = first_schedules(&lengths);
-    let run = run(bytes, 640);
+    let run = run(bytes, SLOTS);
     let goal = lengths
         .iter()
         .flatten()
@@ -67,15 +68,15 @@ fn check_search(bytes: &[u8]) -> [u64; 4] {
                 .iter()
                 .filter(|(first, _)| first.len() <= distance)
                 .count();
-            // Without room for them all the first 640 are still the same.
-            if states <= 640 {
+            // Without room for them all the first are still the same.
+            if states <= SLOTS {
                 assert_eq!(run.answer, [1, distance as u64, states as u64, 0]);
                 assert_eq!(run.schedule[..distance], schedule[..]);
                 assert!(run.untouched_from(states, distance));
             } else {
-                assert_eq!(run.answer, [3, 640, 0, 0]);
+                assert_eq!(run.answer, [3, SLOTS as u64, 0, 0]);
             }
-            states.min(640)
+            states.min(SLOTS)
         }
         None => {
             // Beyond the affordable lengths nothing is known but the slots so far.
@@ -83,7 +84,7 @@ fn check_search(bytes: &[u8]) -> [u64; 4] {
                 assert_eq!(run.answer, [2, firsts.len() as u64, 0, 0]);
                 assert!(run.untouched_from(firsts.len(), 0));
             }
-            firsts.len().min(640)
+            firsts.len().min(SLOTS)
         }
     };
     for (index, (first, state)) in firsts.iter().take(counted).enumerate() {

@@ -3,7 +3,7 @@
 mod common;
 use common::*;
 use second::classes::Counts;
-use second::job::{LONGEST_FILE, MOST_INSTRUCTIONS};
+use second::job::{longest_file, width, LONGEST_FILE, MOST_INSTRUCTIONS, VERSIONS};
 use second::long_threads::{
     of_fence_check, of_job, HELD_HIGH, OF_FENCE_CHECKS, OF_JOBS, ONE_TOO_MANY,
 };
@@ -11,7 +11,8 @@ use second::random::{
     buffer_sizes, case, damaged_job, random_bytes, replay_schedule, sound_job, stuck_schedule,
     Random,
 };
-use second::{dead_code, decode, reason_cases, reasons, replay, version_two, version_two_replays};
+use second::{dead_code, decode, reason_cases, reasons, replay};
+use second::{version_three, version_two, version_two_replays};
 use std::collections::BTreeSet;
 
 #[test]
@@ -52,7 +53,7 @@ fn sound_jobs_are_accepted_and_give_all_answers() {
 fn sound_jobs_reach_the_edges_of_the_ranges() {
     let mut random = Random::new(4);
     let (mut lengths, mut shapes) = (BTreeSet::new(), BTreeSet::new());
-    let mut longest = 0;
+    let mut longest = [0; 3];
     for _ in 0..5_000 {
         let bytes = sound_job(&mut random);
         let job = decode(&bytes).unwrap();
@@ -63,12 +64,14 @@ fn sound_jobs_reach_the_edges_of_the_ranges() {
         shapes.insert(("variables", job.initial.len()));
         shapes.insert(("clauses", job.goal.clauses.len()));
         shapes.insert(("flag", usize::from(job.goal.buffers_empty)));
-        longest = longest.max(bytes.len());
+        let of_version = &mut longest[usize::from(job.version) - 1];
+        *of_version = bytes.len().max(*of_version);
     }
     assert_eq!(lengths, (0..=MOST_INSTRUCTIONS).collect());
     assert_eq!(shapes.len(), 3 + 9 + 4 + 8 + 16 + 2);
     assert!(!shapes.contains(&("clauses", 0)));
-    assert_eq!(longest, LONGEST_FILE);
+    assert_eq!(longest, [1, 2, 3].map(longest_file));
+    assert_eq!(longest[2], LONGEST_FILE);
 }
 
 #[test]
@@ -119,14 +122,17 @@ fn damaged_jobs_meet_every_refusal() {
         refusals[..7].iter().all(|&count| count > 500),
         "{refusals:?}"
     );
-    assert!(sizes.contains(&LONGEST_FILE) && sizes.contains(&(LONGEST_FILE + 1)));
+    for longest in [1, 3].map(longest_file) {
+        assert!(sizes.contains(&longest) && sizes.contains(&(longest + 1)));
+    }
 }
 
 /// A job refused for a blank goal is accepted with one clause in its place; gives K's offset.
 fn blank_goal(bytes: &[u8]) -> Option<usize> {
     let refusal = decode(bytes).err()?;
     let front = bytes.get(2..refusal.offset)?;
-    let counted = with_length(&[front, &[1, 3, 0, 0, 0]].concat());
+    let clause = &[1, 3, 0, 0, 0, 0][..1 + width(bytes[2]).item_bytes()];
+    let counted = with_length(&[front, clause].concat());
     let is_blank = refusal.number == 5 && bytes[refusal.offset] == 0 && decode(&counted).is_ok();
     is_blank.then_some(refusal.offset)
 }
@@ -223,57 +229,90 @@ fn assert_each_reason(stuck: &[Vec<&'static str>], least: usize, never: &[&str])
 }
 
 #[test]
-fn sound_jobs_are_of_both_versions_and_have_both_operations_under_every_model() {
+fn sound_jobs_are_of_each_version_and_have_both_operations_under_every_model() {
     let mut random = Random::new(15);
-    let met = |job: &Vec<u8>| [version_two::of_job(job), version_two::of_fence_check(job)].concat();
-    let sound: Vec<Vec<u8>> = (0..4_000).map(|_| sound_job(&mut random)).collect();
-    let of_one = sound.iter().filter(|job| job[2] == 1).count();
-    assert!((1_500..2_500).contains(&of_one), "{of_one}");
-    let met: Vec<_> = sound.iter().map(met).collect();
-    let classes = [&version_two::of_jobs()[..], &version_two::OF_FENCE_CHECKS].concat();
-    for (class, count) in Counts::new(&classes, &met).of_classes {
+    let sound: Vec<Vec<u8>> = (0..6_000).map(|_| sound_job(&mut random)).collect();
+    for version in VERSIONS {
+        let count = sound.iter().filter(|job| job[2] == version).count();
+        assert!((1_700..2_300).contains(&count), "{count} of {version}");
+    }
+    let of_two =
+        |job: &Vec<u8>| [version_two::of_job(job), version_two::of_fence_check(job)].concat();
+    let of_three = |job: &Vec<u8>| {
+        [
+            version_three::of_job(job),
+            version_three::of_fence_check(job),
+        ]
+        .concat()
+    };
+    let checks = version_two::OF_FENCE_CHECKS;
+    let counts = [
+        Counts::new(
+            &[&version_two::of_jobs()[..], &checks].concat(),
+            &sound.iter().map(of_two).collect::<Vec<_>>(),
+        ),
+        Counts::new(
+            &[&version_three::of_jobs()[..], &checks].concat(),
+            &sound.iter().map(of_three).collect::<Vec<_>>(),
+        ),
+    ];
+    for (class, count) in counts.into_iter().flat_map(|counts| counts.of_classes) {
         let refused = class.starts_with("refused");
-        assert!(refused || count >= 15, "only {count} of {class}");
+        assert!(refused || count >= 10, "only {count} of {class}");
         assert!(!refused || count == 0, "{count} of {class}");
     }
 }
 
 #[test]
-fn damaged_jobs_are_refused_for_what_version_2_has_more() {
+fn damaged_jobs_are_refused_for_what_versions_2_and_3_have_more() {
     let mut random = Random::new(16);
-    let jobs = (0..4_000).map(|_| damaged_job(&mut random));
-    let met: Vec<_> = jobs.map(|job| version_two::of_job(&job)).collect();
-    let mut counts = Counts::new(&version_two::of_jobs(), &met).of_classes;
+    let jobs: Vec<Vec<u8>> = (0..12_000).map(|_| damaged_job(&mut random)).collect();
+    let of_two: Vec<_> = jobs.iter().map(|job| version_two::of_job(job)).collect();
+    let of_three: Vec<_> = jobs.iter().map(|job| version_three::of_job(job)).collect();
+    let counts = [
+        Counts::new(&version_two::of_jobs(), &of_two),
+        Counts::new(&version_three::of_jobs(), &of_three),
+    ];
+    let mut counts = counts.map(|counts| counts.of_classes).concat();
     // Few of them are accepted, so capacities come up now and then.
     counts.retain(|(class, _)| !version_two::WITH_MEMORY.contains(class));
     for (class, count) in counts {
-        assert!(count >= 15, "only {count} of {class}");
+        assert!(count >= 4, "only {count} of {class}");
     }
 }
 
 #[test]
-fn replays_and_searches_of_sound_jobs_meet_what_version_2_has_more() {
+fn replays_and_searches_of_sound_jobs_meet_what_versions_2_and_3_have_more() {
     let mut random = Random::new(17);
-    let (mut replays, mut searches) = (Vec::new(), Vec::new());
-    for _ in 0..3_000 {
+    let (mut replays, mut searches) = ([vec![], vec![]], [vec![], vec![]]);
+    for _ in 0..6_000 {
         let bytes = sound_job(&mut random);
         let schedule = replay_schedule(&mut random, &bytes);
-        replays.push(version_two::of_replay(&bytes, &schedule));
-        let run = run(&bytes, 640);
+        replays[0].push(version_two::of_replay(&bytes, &schedule));
+        replays[1].push(version_three::of_replay(&bytes, &schedule));
+        let run = run(&bytes, 400);
         let left = version_two::Searched {
             answer: run.answer,
             table: &run.table,
             schedule: &run.schedule,
         };
-        searches.push(version_two::of_search(&bytes, left));
+        searches[0].push(version_two::of_search(&bytes, left));
+        searches[1].push(version_three::of_search(&bytes, left));
     }
-    for (class, count) in Counts::new(&version_two::OF_REPLAYS, &replays).of_classes {
-        // These take a walk that fills a buffer with groups and stops just there.
-        let is_seldom = [version_two::STUCK_BESIDE, version_two::STUCK_FULL].contains(&class);
-        let least = if is_seldom { 1 } else { 5 };
+    let counts = [
+        Counts::new(&version_two::OF_REPLAYS, &replays[0]),
+        Counts::new(&version_three::of_replays(), &replays[1]),
+        Counts::new(&version_two::OF_SEARCHES, &searches[0]),
+        Counts::new(&version_three::of_searches(), &searches[1]),
+    ];
+    for (class, count) in counts.into_iter().flat_map(|counts| counts.of_classes) {
+        // These take a walk that fills a buffer with groups and stops just there, and two of three values that are alike.
+        let seldom = [
+            version_two::STUCK_BESIDE,
+            version_two::STUCK_FULL,
+            version_three::TAKES_NOT_BY_LOW,
+        ];
+        let least = if seldom.contains(&class) { 1 } else { 5 };
         assert!(count >= least, "only {count} of {class}");
-    }
-    for (class, count) in Counts::new(&version_two::OF_SEARCHES, &searches).of_classes {
-        assert!(count >= 5, "only {count} of {class}");
     }
 }

@@ -101,10 +101,10 @@ fn reason_from_slot(job: &Job, slot: &[u8], number: u8) -> Option<u8> {
     let [threads, variables] = [job.programs.len(), job.initial.len()];
     // Variable and group of each store; the count has 128 more while a WFENCE stands after the newest.
     let buffer = |thread: usize| {
-        let first = 28 + 17 * thread;
+        let first = 52 + 25 * thread;
         let count = usize::from(slot[first] % 128);
-        let pairs = slot[first + 1..first + 17].chunks(2).take(count);
-        let stores = pairs.map(|pair| (usize::from(pair[0] % 16), pair[0] / 16));
+        let entries = slot[first + 1..first + 25].chunks(3).take(count);
+        let stores = entries.map(|entry| (usize::from(entry[0] % 16), entry[0] / 16));
         stores.collect::<Vec<_>>()
     };
     if number < 4 {

@@ -5,7 +5,14 @@ use common::*;
 
 #[test]
 fn no_slot_is_refusal_7() {
-    for (table, links, schedule) in [(95, 9, 9), (0, 9, 9), (960, 0, 9), (960, 9, 0), (0, 0, 0)] {
+    for (table, links, schedule) in [
+        (151, 9, 9),
+        (96, 9, 9),
+        (0, 9, 9),
+        (1520, 0, 9),
+        (1520, 9, 0),
+        (0, 0, 0),
+    ] {
         let run = run_sized(&p1(), table, links, schedule);
         assert_eq!(run.answer, [0, 7, 0, 0]);
         assert!(run.untouched_from(0, 0));
@@ -35,10 +42,10 @@ fn refusals_write_nothing() {
 
 #[test]
 fn the_smallest_buffer_decides() {
-    for (table, links, schedule) in [(96, 9, 9), (191, 9, 9), (960, 1, 9), (960, 9, 1)] {
+    for (table, links, schedule) in [(152, 9, 9), (303, 9, 9), (1520, 1, 9), (1520, 9, 1)] {
         let run = run_sized(&p1(), table, links, schedule);
         assert_eq!(run.answer, [3, 1, 0, 0]);
-        assert_eq!(run.slot(0), [0; 96]);
+        assert_eq!(run.slot(0), [0; 152]);
         assert_eq!(run.links[0], u32::MAX);
         assert!(run.untouched_from(1, 0));
     }
@@ -50,14 +57,14 @@ fn unknown_keeps_the_first_slots_of_a_full_search() {
     for slots in 1..22 {
         let short = run(&p1(), slots);
         assert_eq!(short.answer, [3, slots as u64, 0, 0]);
-        assert_eq!(short.table, full.table[..slots * 96]);
+        assert_eq!(short.table, full.table[..slots * 152]);
         assert_eq!(short.links, full.links[..slots]);
         assert!(short.untouched_from(slots, 0));
     }
     for slots in 22..40 {
         let enough = run(&p1(), slots);
         assert_eq!(enough.answer, [1, 4, 22, 0]);
-        assert_eq!(enough.table[..22 * 96], full.table[..22 * 96]);
+        assert_eq!(enough.table[..22 * 152], full.table[..22 * 152]);
         assert!(enough.untouched_from(22, 4));
     }
 }

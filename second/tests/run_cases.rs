@@ -21,6 +21,7 @@ use second::reasons::{
     ENDED_AT_FULL, FLUSH_BESIDE, FLUSH_OF_ENDED, FLUSH_OF_WAITING, NEVER, OTHER_STATE_BEFORE,
     STUCK,
 };
+use second::version_three_jobs::{raised, refused_of_three};
 use second::version_two_jobs::{refused_about_versions, refused_in_both};
 use second::{decode, fence_cases, job_cases, replay_cases, search_cases};
 use std::collections::{BTreeMap, BTreeSet};
@@ -59,16 +60,27 @@ fn refused_jobs_are_decoded_and_searched_as_a_person_says() {
     }
 }
 
-/// What is refused in either version.
+/// What is refused in any version.
 fn all_refused() -> Vec<Refused> {
     let of_one = [refused_jobs(), blank_goals(), too_long_threads()].concat();
-    [of_one, refused_about_versions(), refused_in_both()].concat()
+    [
+        of_one,
+        refused_about_versions(),
+        refused_in_both(),
+        refused_of_three(),
+    ]
+    .concat()
 }
 
 #[test]
 fn what_is_refused_about_versions_is_among_the_cases_of_all_four() {
     for jobs in jobs_of_all_four() {
-        for (refused, _) in [refused_about_versions(), refused_in_both()].concat() {
+        let refused = [
+            refused_about_versions(),
+            refused_in_both(),
+            refused_of_three(),
+        ];
+        for (refused, _) in refused.concat() {
             assert!(jobs.contains(&refused), "{refused:?}");
         }
     }
@@ -257,6 +269,39 @@ fn version_2_is_often_enough_among_the_cases_of_all_four() {
     assert_each_class(fence_cases::counts_of_version_two(), 10_000, 8);
 }
 
+/// As for long threads.
+#[test]
+fn version_3_is_often_enough_among_the_cases_of_all_four() {
+    assert_each_class(job_cases::counts_of_version_three(), 7_800, 6);
+    assert_each_class(search_cases::counts_of_version_three(), 4_000, 3);
+    assert_each_class(replay_cases::counts_of_version_three(), 26_000, 10);
+    assert_each_class(fence_cases::counts_of_version_three(), 11_000, 2);
+}
+
+/// With each value times 256 a search has the answer, the links and the schedule that it had.
+#[test]
+fn searches_of_versions_1_and_2_have_the_same_answers_with_values_times_256() {
+    let lines = |case: &search_cases::Case| {
+        let lines = search_cases::lines(case);
+        let words: Vec<String> = lines.split_whitespace().map(str::to_string).collect();
+        // The third word from the end is the sum of the table.
+        [&words[..words.len() - 3], &words[words.len() - 2..]].concat()
+    };
+    let mut compared = 0;
+    for case in search_cases::all().iter().step_by(3) {
+        let is_narrow = decode(&case.job).map_or(false, |job| job.version < 3);
+        if is_narrow {
+            let wide = search_cases::Case {
+                job: raised(&case.job),
+                sizes: case.sizes,
+            };
+            assert_eq!(lines(&wide), lines(case), "{:?}", case.job);
+            compared += 1;
+        }
+    }
+    assert!(compared > 500, "{compared}");
+}
+
 fn assert_each_class(counts: Counts, cases: usize, least: usize) {
     assert!(counts.cases >= cases, "{counts:?}");
     for (class, count) in counts.of_classes {
@@ -265,15 +310,22 @@ fn assert_each_class(counts: Counts, cases: usize, least: usize) {
 }
 
 #[test]
-fn version_1_comes_first_in_all_four_and_stays_where_it_was() {
-    // Only the files that begin with the version byte 2 are new in their answers there.
-    for (jobs, first_of_two) in jobs_of_all_four()
+fn version_1_comes_first_in_all_four_then_version_2_and_both_stay_where_they_were() {
+    let of_two = [2_148, 1_314, 11_925, 7_882];
+    let of_three = [4_446, 2_404, 17_011, 10_051];
+    for (jobs, firsts) in jobs_of_all_four()
         .into_iter()
-        .zip([2_148, 1_314, 11_925, 7_882])
+        .zip(of_two.into_iter().zip(of_three))
     {
-        let accepted = |job: &&Vec<u8>| decode(job).map_or(false, |job| job.version == 2);
-        assert!(jobs[..first_of_two].iter().filter(accepted).count() <= 1);
-        assert!(jobs[first_of_two..].iter().filter(accepted).count() > 300);
+        let accepted = |jobs: &[Vec<u8>], version| {
+            let accepted = jobs.iter().filter_map(|job| decode(job).ok());
+            accepted.filter(|job| job.version == version).count()
+        };
+        // Only files that begin with the version byte 2 or 3 are new in their answers there.
+        assert!(accepted(&jobs[..firsts.0], 2) <= 1);
+        assert!(accepted(&jobs[firsts.0..firsts.1], 2) > 300);
+        assert_eq!(accepted(&jobs[..firsts.1], 3), 0);
+        assert!(accepted(&jobs[firsts.1..], 3) > 600);
     }
 }
 

@@ -3,7 +3,7 @@
 mod common;
 use common::*;
 
-const NONE: [u8; 4] = [0; 4];
+const NONE: [u16; 4] = [0; 4];
 
 #[test]
 fn p5_three_slots_in_a_row() {
@@ -98,11 +98,11 @@ fn pso_counts_one_state_for_two_issue_orders() {
     let both_pending = |model| {
         let run = run(
             &job(model, &[0, 0, 0], &[&program, &swapped], 0, &never),
-            640,
+            400,
         );
         assert_eq!(run.answer[0], 2);
         let slots = (0..run.answer[1] as usize).map(|index| run.slot(index).to_vec());
-        let ended = |s: &Vec<u8>| s[0] == 8 && s[1] == 3 && s[28] == 2 && s[22] == 1;
+        let ended = |s: &Vec<u8>| s[0] == 8 && s[1] == 3 && s[52] == 2 && s[41] == 1;
         slots.filter(ended).count()
     };
     assert_eq!(both_pending(pso(2)), 1);

@@ -13,7 +13,7 @@ use second::{bench_lines, decode, fences, replay, Refusal};
 const WFENCE: [u8; 4] = [11, 0, 0, 0];
 const STORE_X: [u8; 4] = [5, 0, 0, 1];
 const STORE_Y: [u8; 4] = [5, 0, 1, 2];
-const NONE: [u8; 4] = [0; 4];
+const NONE: [u16; 4] = [0; 4];
 
 /// Register 3 of thread 0 is 1: no thread here uses it.
 const NEVER: [[u8; 4]; 1] = [[2, 0, 3, 1]];
@@ -40,17 +40,17 @@ fn job_of_two(
 
 /// The same slot while a WFENCE stands after the newest store of this thread.
 fn with_wfence(thread: usize, mut slot: Vec<u8>) -> Vec<u8> {
-    slot[28 + 17 * thread] += 128;
+    slot[52 + 25 * thread] += 128;
     slot
 }
 
 // ---- the file ----
 
 #[test]
-fn no_version_but_these_two() {
+fn no_version_but_these_and_3() {
     assert_eq!(bench_lines(&[0, 1, 1]), "REFUSED 6 3\nHOLD\n");
     assert_eq!(bench_lines(&[0, 1, 2]), "REFUSED 6 3\nHOLD\n");
-    for version in [0, 3, 4, 255] {
+    for version in [0, 4, 128, 255] {
         assert!(!VERSIONS.contains(&version));
         assert_eq!(bench_lines(&[0, 1, version]), "REFUSED 2 2\nHOLD\n");
         let bytes = in_version(version, &p1());
@@ -174,7 +174,7 @@ fn a_cmpx_sees_what_a_load_may_miss() {
 #[test]
 fn two_threads_never_get_in_by_a_cmpx() {
     for memory in [SC, tso(1), tso(2), tso(8), pso(1), pso(2), pso(8)] {
-        let run = run(&lock(memory), 640);
+        let run = run(&lock(memory), 400);
         assert_eq!(run.answer[0], 2, "{memory:?}");
         // Each alone does: SET, CMPX and the JEQ that isn't taken.
         let mut alone = lock(memory);
@@ -191,7 +191,8 @@ fn two_threads_never_get_in_by_a_cmpx() {
 fn every_slot_of_two_stores_with_a_wfence_between() {
     let program = [STORE_X, WFENCE, STORE_Y];
     let search = |memory| run(&job_of_two(memory, &[0, 0], &[&program], 0, &NEVER), 20);
-    let at = |place, memory: [u8; 2], pairs: &[[u8; 2]]| slot(&[place], &[NONE], &memory, &[pairs]);
+    let at =
+        |place, memory: [u16; 2], pairs: &[[u16; 2]]| slot(&[place], &[NONE], &memory, &[pairs]);
     let x = [[0, 1]];
     let y = [[1, 2]];
     let pso2 = search(pso(2));
@@ -243,16 +244,20 @@ fn every_slot_of_two_stores_with_a_wfence_between() {
     assert_eq!(sc.slot(2), at(2, [1, 0], &[]));
 }
 
-/// The buffer bytes of thread 0, of three variables, behind these steps under PSO.
+/// The buffer bytes of thread 0, of three variables, behind these steps under PSO; without the high bytes, which are 0.
 fn buffer(capacity: u8, program: &[[u8; 4]], schedule: &[u8]) -> Vec<u8> {
     let bytes = job_of_two(pso(capacity), &[0; 3], &[program], 0, &NEVER);
     let job = decode(&bytes).unwrap();
     let (state, taken) = follow(&job, schedule);
     assert_eq!(taken, schedule.len());
     let slot = state.slot();
-    let used = 1 + 2 * usize::from(slot[28] % 128);
-    assert!(slot[28 + used..].iter().all(|&byte| byte == 0));
-    slot[28..28 + used].to_vec()
+    let (used, rest) = slot[53..].split_at(3 * usize::from(slot[52] % 128));
+    assert!(rest.iter().all(|&byte| byte == 0));
+    let entries = used.chunks(3).flat_map(|entry| {
+        assert_eq!(entry[1], 0, "a value of version 2 has no high byte");
+        [entry[0], entry[2]]
+    });
+    [slot[52]].into_iter().chain(entries).collect()
 }
 
 fn store(variable: u8, value: u8) -> [u8; 4] {
@@ -409,10 +414,10 @@ fn two_histories_that_leave_the_same_groups_are_one_state() {
     // Both ways of the first thread end with x and y pending and a WFENCE behind them.
     let both_pending = |memory, count_byte| {
         let [.., two_histories] = classics_of_two(memory);
-        let run = run(&two_histories, 640);
+        let run = run(&two_histories, 400);
         assert_eq!(run.answer[0], 2);
         let slots = (0..run.answer[1] as usize).map(|index| run.slot(index));
-        let is_met = |slot: &&[u8]| slot[..2] == [11, 3] && slot[22] == 1 && slot[28] == count_byte;
+        let is_met = |slot: &&[u8]| slot[..2] == [11, 3] && slot[41] == 1 && slot[52] == count_byte;
         slots.filter(is_met).count()
     };
     assert_eq!(both_pending(pso(3), 130), 1);
@@ -460,11 +465,11 @@ fn slots_of_message_passing_by_wfence() {
     // 00 00: x is pending and the WFENCE stands behind it.
     let fenced = slot(&[2, 0], &none, &[0, 0], &[&[[0, 1]]]);
     assert_eq!(run.slot(3), with_wfence(0, fenced));
-    assert_eq!(run.slot(3)[28..31], [129, 0, 1]);
+    assert_eq!(run.slot(3)[52..56], [129, 0, 0, 1]);
     // 00 00 00: y has joined in group 1. 00 00 04: the buffer is empty, so the WFENCE is gone.
     let grouped = slot(&[3, 0], &none, &[0, 0], &[&[[0, 1], [17, 1]]]);
     assert_eq!(run.slot(7), grouped);
-    assert_eq!(run.slot(7)[28..33], [2, 0, 1, 17, 1]);
+    assert_eq!(run.slot(7)[52..59], [2, 0, 0, 1, 17, 0, 1]);
     assert_eq!(run.slot(9), slot(&[2, 0], &none, &[1, 0], &[]));
     // 00 00 00 04: y is in the oldest group now.
     assert_eq!(run.slot(13), slot(&[3, 0], &none, &[1, 0], &[&[[1, 1]]]));
@@ -494,9 +499,9 @@ fn steps_and_reasons_of_message_passing_by_wfence() {
 #[test]
 fn a_lock_is_handed_over_by_wfence_alone() {
     for memory in [SC, tso(1), tso(2), tso(8), pso(1), pso(2), pso(8)] {
-        let guarded = run(&handover(memory, &[WFENCE]), 640);
+        let guarded = run(&handover(memory, &[WFENCE]), 400);
         assert_eq!(guarded.answer[0], 2, "{memory:?}");
-        let bare = run(&handover(memory, &[]), 640);
+        let bare = run(&handover(memory, &[]), 400);
         if memory == pso(2) || memory == pso(8) {
             // Data, lock, and SET before the flush of the lock, which the CMPX needs.
             assert_eq!(bare.answer[..2], [1, 7], "{memory:?}");

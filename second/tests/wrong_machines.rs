@@ -1,12 +1,15 @@
-//! A machine written otherwise agrees with the checker, and the cases of version 2 tell each of many wrong ones from it.
+//! A machine written otherwise agrees with the checker, and the cases of versions 2 and 3 tell each of many wrong ones from it.
 
 use second::fences::{open_pairs, OpenPair};
 use second::job::{Clause, Instruction, Job, Model};
 use second::machine::{reason, step, Reason, State};
 use second::random::{sound_job_of, stuck_schedule, Random};
-use second::replay_cases::Case;
+use second::replay_cases::{self, Case, Known};
+use second::version_three_jobs::raised;
 use second::version_two::{is_compare_exchange, is_wfence, with};
-use second::{decode, search_cases, version_two_fences, version_two_replays};
+use second::{decode, search_cases};
+use second::{version_three_fences, version_three_replays};
+use second::{version_two_fences, version_two_replays};
 use std::collections::{BTreeMap, BTreeSet};
 
 // ---- a machine without groups ----
@@ -48,7 +51,84 @@ enum Fault {
     CmpxTakesTheValueOnlyIfItDoesNotWrite,
     CmpxExchanges,
     CmpxTakesTheNewValue,
+    AddNeverWrapsAt256,
+    AddWrapsAt256,
+    AddKeepsTheHighByte,
+    AddCarriesNothing,
+    AddStopsAtTheMost,
+    SetLosesTheHighByte,
+    StorekLosesTheHighByte,
+    StoreLosesTheHighByte,
+    LoadLosesTheHighByte,
+    LoadKeepsTheHighByte,
+    OwnLoadLosesTheHighByte,
+    FlushLosesTheHighByte,
+    FlushKeepsTheHighByte,
+    ExchangeLosesTheHighByte,
+    ExchangeKeepsTheHighBytes,
+    JeqComparesLowBytes,
+    JeqComparesHighBytes,
+    JeqComparesWithTheLowByte,
+    CmpxComparesLowBytes,
+    CmpxComparesHighBytes,
+    CmpxWritesTheLowByte,
+    CmpxTakesTheLowByte,
+    RegisterClausesCompareLowBytes,
+    RegisterClausesCompareHighBytes,
+    MemoryClausesCompareLowBytes,
+    MemoryClausesCompareHighBytes,
+    InitialValuesLoseTheHighByte,
+    InitialValuesAreLittleEndian,
+    InstructionsAreLittleEndian,
+    ClausesAreLittleEndian,
+    TheFileIsLittleEndian,
+    SlotsAreLittleEndian,
+    PendingIsLittleEndian,
+    RegistersLoseTheHighByte,
+    MemoryLosesTheHighByte,
+    PendingLosesTheHighByte,
+    PendingValuesStandFirst,
 }
+
+/// What machines get wrong about values of two bytes.
+const FAULTS_OF_VALUES: [Fault; 36] = [
+    Fault::AddWrapsAt256,
+    Fault::AddKeepsTheHighByte,
+    Fault::AddCarriesNothing,
+    Fault::AddStopsAtTheMost,
+    Fault::SetLosesTheHighByte,
+    Fault::StorekLosesTheHighByte,
+    Fault::StoreLosesTheHighByte,
+    Fault::LoadLosesTheHighByte,
+    Fault::LoadKeepsTheHighByte,
+    Fault::OwnLoadLosesTheHighByte,
+    Fault::FlushLosesTheHighByte,
+    Fault::FlushKeepsTheHighByte,
+    Fault::ExchangeLosesTheHighByte,
+    Fault::ExchangeKeepsTheHighBytes,
+    Fault::JeqComparesLowBytes,
+    Fault::JeqComparesHighBytes,
+    Fault::JeqComparesWithTheLowByte,
+    Fault::CmpxComparesLowBytes,
+    Fault::CmpxComparesHighBytes,
+    Fault::CmpxWritesTheLowByte,
+    Fault::CmpxTakesTheLowByte,
+    Fault::RegisterClausesCompareLowBytes,
+    Fault::RegisterClausesCompareHighBytes,
+    Fault::MemoryClausesCompareLowBytes,
+    Fault::MemoryClausesCompareHighBytes,
+    Fault::InitialValuesLoseTheHighByte,
+    Fault::InitialValuesAreLittleEndian,
+    Fault::InstructionsAreLittleEndian,
+    Fault::ClausesAreLittleEndian,
+    Fault::TheFileIsLittleEndian,
+    Fault::SlotsAreLittleEndian,
+    Fault::PendingIsLittleEndian,
+    Fault::RegistersLoseTheHighByte,
+    Fault::MemoryLosesTheHighByte,
+    Fault::PendingLosesTheHighByte,
+    Fault::PendingValuesStandFirst,
+];
 
 const FAULTS: [Fault; 34] = [
     Fault::WfenceDoesNothing,
@@ -88,7 +168,7 @@ const FAULTS: [Fault; 34] = [
 ];
 
 /// Those that only the bytes of slots show.
-const OF_SLOTS: [Fault; 9] = [
+const OF_SLOTS: [Fault; 15] = [
     Fault::WfenceKeepsApartUnderTso,
     Fault::GroupsCountWfences,
     Fault::GroupsAreNotRenumbered,
@@ -98,6 +178,21 @@ const OF_SLOTS: [Fault; 9] = [
     Fault::WfenceIsWrittenOnAnEmptyBuffer,
     Fault::PairsByVariableFirst,
     Fault::PairsByAgeInAGroup,
+    Fault::SlotsAreLittleEndian,
+    Fault::PendingIsLittleEndian,
+    Fault::RegistersLoseTheHighByte,
+    Fault::MemoryLosesTheHighByte,
+    Fault::PendingLosesTheHighByte,
+    Fault::PendingValuesStandFirst,
+];
+
+/// Those that only goals show.
+const OF_GOALS: [Fault; 5] = [
+    Fault::RegisterClausesCompareLowBytes,
+    Fault::RegisterClausesCompareHighBytes,
+    Fault::MemoryClausesCompareLowBytes,
+    Fault::MemoryClausesCompareHighBytes,
+    Fault::ClausesAreLittleEndian,
 ];
 
 /// A pending store, and how many times its thread had been at a WFENCE before.
@@ -105,13 +200,13 @@ const OF_SLOTS: [Fault; 9] = [
 struct Store {
     wfences: u32,
     variable: usize,
-    value: u8,
+    value: u16,
 }
 
 #[derive(Clone, Debug)]
 struct Thread {
     place: usize,
-    registers: [u8; 4],
+    registers: [u16; 4],
     /// In the order in which they were issued.
     stores: Vec<Store>,
     wfences: u32,
@@ -124,7 +219,7 @@ struct Thread {
 struct Machine<'a> {
     job: &'a Job,
     fault: Option<Fault>,
-    memory: Vec<u8>,
+    memory: Vec<u16>,
     threads: Vec<Thread>,
 }
 
@@ -268,7 +363,13 @@ impl<'a> Machine<'a> {
             let at = at.expect("a flush that has no reason takes a store");
             let own = &mut next.threads[thread];
             let store = own.stores.remove(at);
-            next.memory[variable] = store.value;
+            next.memory[variable] = match self.fault {
+                Some(Fault::FlushLosesTheHighByte) => low(store.value),
+                Some(Fault::FlushKeepsTheHighByte) => {
+                    high(next.memory[variable]) | low(store.value)
+                }
+                _ => store.value,
+            };
             if self.has(Fault::WfenceEndsAtAnyFlush) && !own.stores.is_empty() {
                 own.wfences = own.wfences_before_newest;
             }
@@ -285,20 +386,40 @@ impl<'a> Machine<'a> {
         match instruction {
             Instruction::Set { register, value } => thread.registers[register] = value,
             Instruction::Add { register, value } => {
-                thread.registers[register] = thread.registers[register].wrapping_add(value);
+                let held = thread.registers[register];
+                thread.registers[register] = added(fault, self.job.version, held, value);
             }
             Instruction::Load { register, variable } => {
-                let pending = seen(thread, variable, fault);
-                thread.registers[register] = pending.unwrap_or(self.memory[variable]);
+                let own = seen(thread, variable, fault);
+                let before = thread.registers[register];
+                let value = own.unwrap_or(self.memory[variable]);
+                thread.registers[register] = match fault {
+                    Some(Fault::LoadLosesTheHighByte) => low(value),
+                    Some(Fault::LoadKeepsTheHighByte) => high(before) | low(value),
+                    Some(Fault::OwnLoadLosesTheHighByte) if own.is_some() => low(value),
+                    _ => value,
+                };
             }
             Instruction::StoreRegister { register, variable } => {
-                let value = thread.registers[register];
+                let value = match fault {
+                    Some(Fault::StoreLosesTheHighByte) => low(thread.registers[register]),
+                    _ => thread.registers[register],
+                };
                 self.store(number, variable, value);
             }
             Instruction::StoreConstant { variable, value } => self.store(number, variable, value),
             Instruction::Fence => {}
             Instruction::Exchange { register, variable } => {
-                std::mem::swap(&mut thread.registers[register], &mut self.memory[variable]);
+                let [held, before] = [thread.registers[register], self.memory[variable]];
+                let [got, left] = match fault {
+                    Some(Fault::ExchangeLosesTheHighByte) => [low(before), held],
+                    Some(Fault::ExchangeKeepsTheHighBytes) => {
+                        [high(held) | low(before), high(before) | low(held)]
+                    }
+                    _ => [before, held],
+                };
+                thread.registers[register] = got;
+                self.memory[variable] = left;
             }
             Instruction::CompareExchange {
                 register,
@@ -330,7 +451,14 @@ impl<'a> Machine<'a> {
                 target,
                 value,
             } => {
-                if thread.registers[register] == value {
+                let held = thread.registers[register];
+                let equal = match fault {
+                    Some(Fault::JeqComparesLowBytes) => low(held) == low(value),
+                    Some(Fault::JeqComparesHighBytes) => high(held) == high(value),
+                    Some(Fault::JeqComparesWithTheLowByte) => held == low(value),
+                    _ => held == value,
+                };
+                if equal {
                     thread.place = target;
                 }
             }
@@ -338,7 +466,7 @@ impl<'a> Machine<'a> {
         }
     }
 
-    fn store(&mut self, number: usize, variable: usize, value: u8) {
+    fn store(&mut self, number: usize, variable: usize, value: u16) {
         if self.job.model == Model::Sc {
             self.memory[variable] = value;
             return;
@@ -363,16 +491,34 @@ impl<'a> Machine<'a> {
     }
 
     fn slot(&self) -> Vec<u8> {
-        let mut slot = vec![0; 96];
+        let mut slot = vec![0; 152];
+        let of_values = |values: &[u16], loses_high: bool| -> Vec<u8> {
+            let bytes = values.iter().flat_map(|&value| match loses_high {
+                true => self.in_slot(low(value)),
+                false => self.in_slot(value),
+            });
+            bytes.collect()
+        };
         for (number, thread) in self.threads.iter().enumerate() {
             slot[number] = thread.place as u8;
-            slot[4 + 4 * number..8 + 4 * number].copy_from_slice(&thread.registers);
+            let loses_high = self.has(Fault::RegistersLoseTheHighByte);
+            let registers = of_values(&thread.registers, loses_high);
+            slot[4 + 8 * number..12 + 8 * number].copy_from_slice(&registers);
             let buffer = self.buffer(thread);
-            let first = 28 + 17 * number;
+            let first = 52 + 25 * number;
             slot[first..first + buffer.len()].copy_from_slice(&buffer);
         }
-        slot[20..20 + self.memory.len()].copy_from_slice(&self.memory);
+        let memory = of_values(&self.memory, self.has(Fault::MemoryLosesTheHighByte));
+        slot[36..36 + memory.len()].copy_from_slice(&memory);
         slot
+    }
+
+    fn in_slot(&self, value: u16) -> [u8; 2] {
+        let [first, second] = [(value / 256) as u8, (value % 256) as u8];
+        match self.fault {
+            Some(Fault::SlotsAreLittleEndian) => [second, first],
+            _ => [first, second],
+        }
     }
 
     fn buffer(&self, thread: &Thread) -> Vec<u8> {
@@ -411,7 +557,14 @@ impl<'a> Machine<'a> {
         };
         let mut bytes = vec![stores.len() as u8 + if is_seen { 128 } else { 0 }];
         for store in order {
-            bytes.extend([store.variable as u8 | group(store) << 4, store.value]);
+            let sign = store.variable as u8 | group(store) << 4;
+            let [first, second] = self.in_slot(store.value);
+            bytes.extend(match self.fault {
+                Some(Fault::PendingIsLittleEndian) => [sign, second, first],
+                Some(Fault::PendingLosesTheHighByte) => [sign, 0, second],
+                Some(Fault::PendingValuesStandFirst) => [first, second, sign],
+                _ => [sign, first, second],
+            });
         }
         bytes
     }
@@ -424,15 +577,105 @@ impl<'a> Machine<'a> {
                 thread,
                 register,
                 value,
-            } => self.threads[thread].registers[register] == value,
-            Clause::Memory { variable, value } => self.memory[variable] == value,
+            } => {
+                let held = self.threads[thread].registers[register];
+                match self.fault {
+                    Some(Fault::RegisterClausesCompareLowBytes) => low(held) == low(value),
+                    Some(Fault::RegisterClausesCompareHighBytes) => high(held) == high(value),
+                    _ => held == value,
+                }
+            }
+            Clause::Memory { variable, value } => {
+                let held = self.memory[variable];
+                match self.fault {
+                    Some(Fault::MemoryClausesCompareLowBytes) => low(held) == low(value),
+                    Some(Fault::MemoryClausesCompareHighBytes) => high(held) == high(value),
+                    _ => held == value,
+                }
+            }
         };
         (drained || !self.job.goal.buffers_empty) && self.job.goal.clauses.iter().all(holds)
     }
 }
 
+/// The value with 0 for its high byte.
+fn low(value: u16) -> u16 {
+    value % 256
+}
+
+/// The value with 0 for its low byte.
+fn high(value: u16) -> u16 {
+    value - value % 256
+}
+
+/// What an ADD leaves.
+fn added(fault: Option<Fault>, version: u8, held: u16, value: u16) -> u16 {
+    let by_bytes = |value: u16| value.to_be_bytes();
+    let [[held_high, held_low], [high_byte, low_byte]] = [by_bytes(held), by_bytes(value)];
+    let low_sum = held_low.wrapping_add(low_byte);
+    match (fault, version) {
+        (Some(Fault::AddNeverWrapsAt256), _) => held.wrapping_add(value),
+        // A value of these versions has no high byte.
+        (_, 1 | 2) => low_sum.into(),
+        (Some(Fault::AddWrapsAt256), _) => low_sum.into(),
+        (Some(Fault::AddKeepsTheHighByte), _) => u16::from_be_bytes([held_high, low_sum]),
+        (Some(Fault::AddCarriesNothing), _) => {
+            u16::from_be_bytes([held_high.wrapping_add(high_byte), low_sum])
+        }
+        (Some(Fault::AddStopsAtTheMost), _) => held.saturating_add(value),
+        (_, _) => held.wrapping_add(value),
+    }
+}
+
+/// The job as a decoder with this fault has it.
+fn misread(mut job: Job, fault: Option<Fault>) -> Job {
+    let fault = match fault {
+        Some(fault) => fault,
+        None => return job,
+    };
+    let whole_file = fault == Fault::TheFileIsLittleEndian;
+    for value in &mut job.initial {
+        *value = match fault {
+            Fault::InitialValuesLoseTheHighByte => low(*value),
+            Fault::InitialValuesAreLittleEndian | Fault::TheFileIsLittleEndian => {
+                value.swap_bytes()
+            }
+            _ => *value,
+        };
+    }
+    for instruction in job.programs.iter_mut().flatten() {
+        let little_endian = whole_file || fault == Fault::InstructionsAreLittleEndian;
+        let loses_high = match instruction {
+            Instruction::Set { .. } => fault == Fault::SetLosesTheHighByte,
+            Instruction::StoreConstant { .. } => fault == Fault::StorekLosesTheHighByte,
+            _ => false,
+        };
+        if let Instruction::Set { value, .. }
+        | Instruction::Add { value, .. }
+        | Instruction::StoreConstant { value, .. }
+        | Instruction::JumpIfEqual { value, .. }
+        | Instruction::CompareExchange { value, .. } = instruction
+        {
+            if little_endian {
+                *value = value.swap_bytes();
+            }
+            if loses_high {
+                *value = low(*value);
+            }
+        }
+    }
+    for clause in &mut job.goal.clauses {
+        if let Clause::Register { value, .. } | Clause::Memory { value, .. } = clause {
+            if whole_file || fault == Fault::ClausesAreLittleEndian {
+                *value = value.swap_bytes();
+            }
+        }
+    }
+    job
+}
+
 /// The own pending store that a load takes.
-fn seen(thread: &Thread, variable: usize, fault: Option<Fault>) -> Option<u8> {
+fn seen(thread: &Thread, variable: usize, fault: Option<Fault>) -> Option<u16> {
     let stores = &thread.stores;
     let ends = [stores.first()?, stores.last()?].map(|store| store.wfences);
     let mut to_variable: Vec<&Store> = stores.iter().filter(|s| s.variable == variable).collect();
@@ -446,8 +689,12 @@ fn seen(thread: &Thread, variable: usize, fault: Option<Fault>) -> Option<u8> {
 }
 
 /// What memory and the register hold behind a CMPX.
-fn compared(fault: Option<Fault>, memory: u8, register: u8, value: u8) -> (u8, u8) {
-    let takes = memory == register;
+fn compared(fault: Option<Fault>, memory: u16, register: u16, value: u16) -> (u16, u16) {
+    let takes = match fault {
+        Some(Fault::CmpxComparesLowBytes) => low(memory) == low(register),
+        Some(Fault::CmpxComparesHighBytes) => high(memory) == high(register),
+        _ => memory == register,
+    };
     let right = (if takes { value } else { memory }, memory);
     match fault {
         Some(Fault::CmpxAlwaysWrites) => (value, memory),
@@ -461,6 +708,8 @@ fn compared(fault: Option<Fault>, memory: u8, register: u8, value: u8) -> (u8, u
         }
         Some(Fault::CmpxExchanges) => (register, memory),
         Some(Fault::CmpxTakesTheNewValue) => (right.0, right.0),
+        Some(Fault::CmpxWritesTheLowByte) if takes => (low(value), memory),
+        Some(Fault::CmpxTakesTheLowByte) => (right.0, low(memory)),
         _ => right,
     }
 }
@@ -492,16 +741,22 @@ fn walk_both(job: &Job, schedule: &[u8]) -> usize {
 fn the_machine_without_groups_agrees_with_the_checker() {
     let mut random = Random::new(71);
     let mut steps = 0;
-    for turn in 0..3_000 {
-        let bytes = match turn % 2 {
+    for turn in 0..5_000 {
+        let bytes = match turn % 5 {
             0 => sound_job_of(&mut random, 2),
-            _ => version_two_replays::random_job(&mut random),
+            1 => version_two_replays::random_job(&mut random),
+            2 => raised(&version_two_replays::random_job(&mut random)),
+            _ => sound_job_of(&mut random, 3),
         };
         let schedule = stuck_schedule(&mut random, &bytes);
         steps += walk_both(&decode(&bytes).unwrap(), &schedule);
     }
-    assert!(steps > 15_000, "{steps}");
-    for (case, _) in version_two_replays::all_known() {
+    assert!(steps > 25_000, "{steps}");
+    let of_both = [
+        version_two_replays::all_known(),
+        version_three_replays::all_known(),
+    ];
+    for (case, _) in of_both.concat() {
         if let Ok(job) = decode(&case.job) {
             walk_both(&job, &case.schedule[..case.schedule.len().min(40)]);
         }
@@ -510,6 +765,7 @@ fn the_machine_without_groups_agrees_with_the_checker() {
 
 /// The slots of a search, first those of distance 0, 1 and so on, each in the order of first schedules.
 fn slots(job: &Job, fault: Option<Fault>, room: usize) -> Vec<Vec<u8>> {
+    let job = &misread(job.clone(), fault);
     let start = Machine::start(job, fault);
     let mut known = BTreeSet::from([start.slot()]);
     let mut found = vec![start];
@@ -530,8 +786,8 @@ fn slots(job: &Job, fault: Option<Fault>, room: usize) -> Vec<Vec<u8>> {
     found.iter().map(Machine::slot).collect()
 }
 
-/// Jobs of the search cases that count every state in the room there is, each once.
-fn searched_jobs() -> Vec<(Job, usize)> {
+/// Jobs of this version among the search cases that count every state in the room there is, each once.
+fn searched_jobs(version: u8) -> Vec<(Job, usize)> {
     let mut jobs = BTreeMap::new();
     for case in search_cases::all() {
         let lines = search_cases::lines(&case);
@@ -542,15 +798,17 @@ fn searched_jobs() -> Vec<(Job, usize)> {
     let decoded = jobs
         .into_iter()
         .map(|(job, states)| (decode(&job).unwrap(), states));
-    let of_two = decoded.filter(|(job, states)| job.version == 2 && *states <= 120);
-    of_two.collect()
+    let of_version = decoded.filter(|(job, states)| job.version == version && *states <= 120);
+    of_version.collect()
 }
 
 #[test]
-fn the_searches_of_version_2_have_the_slots_of_the_machine_without_groups() {
-    let jobs = searched_jobs();
-    assert!(jobs.len() > 80, "{}", jobs.len());
-    for (job, states) in jobs {
+fn searches_have_the_slots_of_the_machine_without_groups() {
+    let of_each = [2, 3].map(searched_jobs);
+    for jobs in &of_each {
+        assert!(jobs.len() > 80, "{}", jobs.len());
+    }
+    for (job, states) in of_each.concat() {
         let expected = slots(&job, None, usize::MAX);
         assert_eq!(expected.len(), states);
         let mut state_slots = vec![State::start(&job)];
@@ -573,7 +831,7 @@ fn the_searches_of_version_2_have_the_slots_of_the_machine_without_groups() {
 // ---- the wrong ones do not ----
 
 fn line_by(fault: Option<Fault>, case: &Case) -> Option<String> {
-    let job = decode(&case.job).ok()?;
+    let job = misread(decode(&case.job).ok()?, fault);
     let mut machine = Machine::start(&job, fault);
     for (at, &number) in case.schedule.iter().enumerate() {
         match machine.reason(number) {
@@ -588,18 +846,20 @@ fn line_by(fault: Option<Fault>, case: &Case) -> Option<String> {
     Some(line.to_string())
 }
 
-#[test]
-fn known_replays_tell_every_wrong_machine_but_by_its_slots() {
-    let mut cases = version_two_replays::pinned();
-    cases.retain(|(case, _)| decode(&case.job).is_ok());
-    let errors = |fault| {
-        let lines = cases.iter();
-        let wrong = lines.filter(|(case, line)| line_by(fault, case).as_ref() != Some(line));
-        wrong.count()
-    };
-    assert_eq!(errors(None), 0);
-    for fault in FAULTS {
-        let count = errors(Some(fault));
+/// How many of the accepted cases a machine with this fault has another line for.
+fn errors(fault: Option<Fault>, cases: &[Known]) -> usize {
+    let mut cases = cases.iter();
+    let wrong = cases
+        .by_ref()
+        .filter(|(case, line)| line_by(fault, case).map_or(false, |given| given != *line));
+    wrong.count()
+}
+
+/// That the cases tell each machine with one of these faults, unless only slots show it.
+fn assert_told_by_replays(faults: &[Fault], cases: &[Known]) {
+    assert_eq!(errors(None, cases), 0);
+    for &fault in faults {
+        let count = errors(Some(fault), cases);
         let is_seen = !OF_SLOTS.contains(&fault);
         assert!(!is_seen || count >= 3, "{fault:?} {count}");
         assert!(is_seen || count == 0, "{fault:?} {count}");
@@ -607,20 +867,56 @@ fn known_replays_tell_every_wrong_machine_but_by_its_slots() {
 }
 
 #[test]
+fn known_replays_tell_every_wrong_machine_but_by_its_slots() {
+    assert_told_by_replays(&FAULTS, &version_two_replays::pinned());
+}
+
+#[test]
+fn known_replays_of_version_3_tell_wrong_values_and_what_is_wrong_in_version_2() {
+    let mut cases = version_three_replays::pinned();
+    // What is seen in a few steps has to be seen there.
+    cases.retain(|(case, _)| case.schedule.len() < 100);
+    assert_told_by_replays(&FAULTS_OF_VALUES, &cases);
+    assert_told_by_replays(&FAULTS, &version_three_replays::all_known());
+}
+
+#[test]
+fn known_replays_tell_a_machine_that_adds_modulo_65536_in_versions_1_and_2() {
+    let fault = Some(Fault::AddNeverWrapsAt256);
+    let mut cases = replay_cases::all_known();
+    cases.retain(|(case, _)| decode(&case.job).map_or(false, |job| job.version < 3));
+    assert_eq!(errors(None, &cases), 0);
+    assert!(errors(fault, &cases) >= 10, "{}", errors(fault, &cases));
+}
+
+#[test]
 fn searches_tell_every_wrong_machine_but_by_its_reasons() {
-    let jobs = searched_jobs();
-    for fault in FAULTS {
-        let of_reasons = [
-            Fault::LaterGroupsHaveNothingToFlush,
-            Fault::NowhereIsNotTheOldest,
-        ];
+    assert_told_by_searches(&FAULTS, 2);
+}
+
+#[test]
+fn searches_of_version_3_tell_wrong_values_but_by_their_goals() {
+    assert_told_by_searches(&FAULTS_OF_VALUES, 3);
+}
+
+fn assert_told_by_searches(faults: &[Fault], version: u8) {
+    let jobs = searched_jobs(version);
+    for &fault in faults {
+        let not_of_slots = [
+            &[
+                Fault::LaterGroupsHaveNothingToFlush,
+                Fault::NowhereIsNotTheOldest,
+            ][..],
+            &OF_GOALS,
+        ]
+        .concat();
         let mut wrong = jobs.iter().filter(|(job, states)| {
             let right = slots(job, None, usize::MAX);
             // A wrong machine may go on for ever, so that its groups are counted on and on.
             slots(job, Some(fault), states + 1) != right
         });
         let count = wrong.by_ref().take(3).count();
-        let is_seen = !of_reasons.contains(&fault);
+        let is_seen = !not_of_slots.contains(&fault);
         assert!(!is_seen || count >= 3, "{fault:?} {count}");
         assert!(is_seen || count == 0, "{fault:?} {count}");
     }
@@ -670,11 +966,16 @@ const WRONG_CHECKS: [(&str, Check); 7] = [
 
 #[test]
 fn fence_cases_tell_every_wrong_check() {
-    let known: Vec<Vec<u8>> = version_two_fences::all_known()
-        .into_iter()
-        .map(|(job, _)| job)
-        .collect();
-    for jobs in [known, version_two_fences::random_jobs()] {
+    let [of_two, of_three] = [
+        version_two_fences::all_known(),
+        version_three_fences::all_known(),
+    ]
+    .map(|known| known.into_iter().map(|(job, _)| job).collect());
+    let random = [
+        version_two_fences::random_jobs(),
+        version_three_fences::random_jobs(),
+    ];
+    for jobs in [of_two, of_three].into_iter().chain(random) {
         let jobs: Vec<Job> = jobs.iter().filter_map(|job| decode(job).ok()).collect();
         for (name, check) in WRONG_CHECKS {
             let wrong = jobs.iter().filter(|job| check(job) != least(job)).count();

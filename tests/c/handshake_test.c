@@ -1,11 +1,14 @@
-/* Calls the library through its C header on the bench list of 01, and on jobs of version 2. */
+/* Calls the library through its C header on the bench list of 01, and on jobs of versions 2 and 3. */
 #include "handshake.h"
 
 #include <stdio.h>
 #include <stdlib.h>
 #include <string.h>
 
-enum { SLOT = 96, ROOM = 640 };
+/* A slot: 4 places, 16 registers and 8 variables of two bytes each, and for each thread a count and eight entries of three bytes. ROOM is the
+ * bench program's number of slots. */
+enum { SLOT = 152, REGISTERS = 4, MEMORY = REGISTERS + 32, BUFFERS = MEMORY + 16, ENTRY = 3, BUFFER = 1 + 8 * ENTRY, ROOM = 400 };
+_Static_assert(BUFFERS + 4 * BUFFER == SLOT, "the parts are the slot");
 
 static int checks = 0;
 
@@ -22,7 +25,7 @@ static int checks = 0;
 static const uint8_t P1[] = {0x00, 0x2B, 0x01, 0x01, 0x01, 0x02, 0x02, 0x00, 0x00, 0x02, 0x05, 0x00, 0x00, 0x01, 0x03,
                              0x00, 0x01, 0x00, 0x02, 0x05, 0x00, 0x01, 0x01, 0x03, 0x00, 0x00, 0x00, 0x00, 0x04, 0x01,
                              0x00, 0x00, 0x02, 0x01, 0x01, 0x00, 0x02, 0x02, 0x00, 0x00, 0x00, 0x02, 0x01, 0x00, 0x00};
-enum { VERSION = 2, MODEL = 3, CAPACITY = 4, FLAG = 27, K = 28 };
+enum { VERSION = 2, MODEL = 3, CAPACITY = 4, THREADS = 5, VARIABLES = 6, VALUES = 7, FLAG = 27, K = 28 };
 
 /* P10: TSO, C 1, one thread with x = 1 and x = 2; goal place 0. */
 static const uint8_t P10[] = {0x00, 0x15, 0x01, 0x01, 0x01, 0x01, 0x01, 0x00, 0x02, 0x05, 0x00, 0x00,
@@ -63,6 +66,89 @@ enum { CLAUSE = 45 };
 /* Version 2, SC, V 1, one thread: CMPX r0 x 5, CMPX r0 x 7, CMPX r0 x 9; goal x = 9. */
 static const uint8_t COMPARING[] = {0x00, 0x19, 0x02, 0x00, 0x00, 0x01, 0x01, 0x00, 0x03, 0x0A, 0x00, 0x00, 0x05, 0x0A,
                                     0x00, 0x00, 0x07, 0x0A, 0x00, 0x00, 0x09, 0x00, 0x01, 0x03, 0x00, 0x00, 0x09};
+
+/* P1 in version 3, written by hand, and the places in it that the cases change; ITEM is the size of an instruction or a clause. */
+static const uint8_t WIDE[] = {0x00, 0x35, 0x03, 0x01, 0x01, 0x02, 0x02, 0x00, 0x00, 0x00, 0x00, 0x02, 0x05, 0x00, 0x00, 0x00, 0x01, 0x03, 0x00,
+                               0x01, 0x00, 0x00, 0x02, 0x05, 0x00, 0x01, 0x00, 0x01, 0x03, 0x00, 0x00, 0x00, 0x00, 0x00, 0x04, 0x01, 0x00, 0x00,
+                               0x00, 0x02, 0x01, 0x01, 0x00, 0x00, 0x02, 0x02, 0x00, 0x00, 0x00, 0x00, 0x02, 0x01, 0x00, 0x00, 0x00};
+enum { WIDE_INSTRUCTION = 12, WIDE_FLAG = 33, WIDE_K = 34, WIDE_CLAUSE = 35, ITEM = 5 };
+
+/* Puts the bytes that the text says in hex, and gives their number. */
+static size_t put(uint8_t *at, const char *hex) {
+    size_t count = 0;
+    char *end;
+    for (; *hex != 0; hex = end) at[count++] = (uint8_t)strtoul(hex, &end, 16);
+    return count;
+}
+
+typedef struct {
+    size_t size;
+    uint8_t bytes[160];
+} Job;
+
+static void put_length(Job *job) { job->bytes[0] = (uint8_t)((job->size - 2) / 256), job->bytes[1] = (uint8_t)((job->size - 2) % 256); }
+
+/* A job by what stands behind its length, in hex: all up to the last thread's end, and the goal. */
+static Job file(const char *program, const char *goal) {
+    Job job = {2, {0}};
+    job.size += put(job.bytes + job.size, program);
+    job.size += put(job.bytes + job.size, goal);
+    put_length(&job);
+    return job;
+}
+
+/* The forms of one job: a version, and by what its values are multiplied in the high byte and in the low one. All are but 0 to 15, so none
+ * wraps; in the fourth form the low bytes are alike, in the last neither byte is. */
+typedef struct {
+    uint8_t version, high, low;
+} Form;
+static const Form FORMS[] = {{1, 0, 1}, {2, 0, 1}, {3, 0, 1}, {3, 1, 0}, {3, 16, 3}};
+enum { FORM_COUNT = sizeof FORMS / sizeof FORMS[0], FIRST_WIDE = 2 };
+static Form form;
+
+/* A value in the present form, in two bytes as a slot and a file of version 3 have it. */
+static void put_value(uint8_t *at, uint8_t value) { at[0] = (uint8_t)(form.high * value), at[1] = (uint8_t)(form.low * value); }
+
+/* Sets a pending store in a slot. */
+static void put_entry(uint8_t *slot, size_t thread, size_t entry, uint8_t variable, uint8_t value) {
+    uint8_t *at = slot + BUFFERS + BUFFER * thread + 1 + ENTRY * entry;
+    at[0] = variable;
+    put_value(at + 1, value);
+}
+
+/* The next item of four bytes, with its last byte as two: a value, or in a clause of kind 1 a place. */
+static void widen(Job *job, const uint8_t **from, int is_place) {
+    uint8_t *to = job->bytes + job->size, last = (*from)[3];
+    memcpy(to, *from, 3);
+    if (is_place)
+        to[3] = 0, to[4] = last;
+    else
+        put_value(to + 3, last);
+    job->size += ITEM, *from += 4;
+}
+
+/* An accepted file of version 1 or 2 in the present form. */
+static Job formed(const uint8_t *narrow, size_t size) {
+    Job job = {size, {0}};
+    const uint8_t *from = narrow + VALUES;
+    if (form.version < 3) {
+        memcpy(job.bytes, narrow, size);
+        job.bytes[VERSION] = form.version;
+        return job;
+    }
+    memcpy(job.bytes, narrow, VALUES);
+    job.bytes[VERSION] = form.version, job.size = VALUES;
+    for (size_t v = 0; v < narrow[VARIABLES]; v++, job.size += 2) put_value(job.bytes + job.size, *from++);
+    for (size_t t = 0; t < narrow[THREADS]; t++) {
+        uint8_t n = *from++;
+        for (job.bytes[job.size++] = n; n > 0; n--) widen(&job, &from, 0);
+    }
+    job.bytes[job.size++] = *from++;
+    uint8_t clauses = *from++;
+    for (job.bytes[job.size++] = clauses; clauses > 0; clauses--) widen(&job, &from, from[0] == 1);
+    put_length(&job);
+    return job;
+}
 
 static int answer_is(const uint64_t answer[4], uint64_t a, uint64_t b, uint64_t c, uint64_t d) {
     return answer[0] == a && answer[1] == b && answer[2] == c && answer[3] == d;
@@ -157,11 +243,12 @@ static void p1_whole(void) {
     static const uint8_t steps[] = {0x00, 0x00, 0x01, 0x01};
     /* Slot 0 is the start, all zero; in slot 1 thread 0 has x = 1 pending, in slot 2 thread 1 has y = 1 pending. */
     uint8_t first[3 * SLOT] = {0};
-    first[SLOT + 0] = 1, first[SLOT + 28] = 1, first[SLOT + 29] = 0, first[SLOT + 30] = 1;
-    first[2 * SLOT + 1] = 1, first[2 * SLOT + 45] = 1, first[2 * SLOT + 46] = 1, first[2 * SLOT + 47] = 1;
+    const Job p1 = formed(P1, sizeof P1);
+    first[SLOT + 0] = 1, first[SLOT + BUFFERS] = 1, put_entry(first + SLOT, 0, 0, 0, 1);
+    first[2 * SLOT + 1] = 1, first[2 * SLOT + BUFFERS + BUFFER] = 1, put_entry(first + 2 * SLOT, 1, 0, 1, 1);
     uint64_t answer[4];
     Lent m = lend(ROOM * SLOT, ROOM, ROOM);
-    search(P1, sizeof P1, &m, answer);
+    search(p1.bytes, p1.size, &m, answer);
     CHECK(answer_is(answer, 1, 4, 22, 0));
     CHECK(memcmp(m.schedule + guard, steps, sizeof steps) == 0);
     CHECK(memcmp(m.table + guard, first, 3 * SLOT) == 0);
@@ -179,17 +266,18 @@ static void p1_whole(void) {
 }
 
 static void p1_by_slots(void) {
+    const Job p1 = formed(P1, sizeof P1);
     uint64_t answer[4];
     Lent m = lend(22 * SLOT, 22, 22);
-    search(P1, sizeof P1, &m, answer);
+    search(p1.bytes, p1.size, &m, answer);
     CHECK(answer_is(answer, 1, 4, 22, 0));
     CHECK(rest_kept(&m, 22 * SLOT, 22, 4));
     give_back(m);
-    /* 21 slots by each of the three, and by 95 bytes too many for 21 and too few for 22. */
-    size_t sizes[4][3] = {{21 * SLOT, 22, 22}, {22 * SLOT, 21, 22}, {22 * SLOT, 22, 21}, {21 * SLOT + 95, 640, 640}};
+    /* 21 slots by each of the three, and by 151 bytes too many for 21 and too few for 22. */
+    size_t sizes[4][3] = {{21 * SLOT, 22, 22}, {22 * SLOT, 21, 22}, {22 * SLOT, 22, 21}, {21 * SLOT + SLOT - 1, ROOM, ROOM}};
     for (size_t k = 0; k < 4; k++) {
         m = lend(sizes[k][0], sizes[k][1], sizes[k][2]);
-        search(P1, sizeof P1, &m, answer);
+        search(p1.bytes, p1.size, &m, answer);
         CHECK(answer_is(answer, 3, 21, 0, 0));
         CHECK(rest_kept(&m, 21 * SLOT, 21, 0));
         give_back(m);
@@ -202,58 +290,51 @@ static void p2_and_p3(void) {
     uint64_t answer[4];
     memcpy(job, P1, sizeof P1);
     job[MODEL] = 0, job[CAPACITY] = 0;
+    const Job p2 = formed(job, sizeof job);
     Lent m = lend(ROOM * SLOT, ROOM, ROOM);
-    search(job, sizeof job, &m, answer);
+    search(p2.bytes, p2.size, &m, answer);
     CHECK(answer_is(answer, 2, 13, 0, 0));
     CHECK(rest_kept(&m, 13 * SLOT, 13, 0));
     give_back(m);
     memcpy(job, P1, sizeof P1);
     job[FLAG] = 1;
+    const Job p3 = formed(job, sizeof job);
     m = lend(ROOM * SLOT, ROOM, ROOM);
-    search(job, sizeof job, &m, answer);
+    search(p3.bytes, p3.size, &m, answer);
     CHECK(answer_is(answer, 1, 6, 34, 0));
     CHECK(memcmp(m.schedule + guard, steps, sizeof steps) == 0);
     CHECK(rest_kept(&m, 34 * SLOT, 34, 6));
     give_back(m);
 }
 
-static void replays(void) {
-    static const uint8_t found[] = {0x00, 0x00, 0x01, 0x01}, twice[] = {0x00, 0x00}, never[] = {0x24}, above[] = {0xFF};
-    uint64_t answer[4];
-    replay(P1, sizeof P1, found, sizeof found, answer);
-    CHECK(answer_is(answer, 1, 0, 0, 0));
-    replay(P1, sizeof P1, found, 3, answer);
-    CHECK(answer_is(answer, 2, 0, 0, 0));
-    replay(P10, sizeof P10, twice, sizeof twice, answer);
-    CHECK(answer_is(answer, 3, 1, 3, 0));
-    replay(P10, sizeof P10, never, sizeof never, answer);
-    CHECK(answer_is(answer, 3, 0, 1, 0));
-    replay(P1, sizeof P1, never, sizeof never, answer);
-    CHECK(answer_is(answer, 3, 0, 1, 0));
-    replay(P1, sizeof P1, above, sizeof above, answer);
-    CHECK(answer_is(answer, 3, 0, 1, 0));
-}
-
-/* What stands at BARRIER in THREE: 6 FENCE or 7 XCHG. */
-static uint8_t barrier;
-
 /* Whether a replay by steps in hex answers a, b, c, 0. */
 static int replayed(const uint8_t *job, size_t size, const char *hex, uint64_t a, uint64_t b, uint64_t c) {
     uint8_t steps[16];
     uint64_t answer[4];
-    size_t count = 0;
-    char *end;
-    for (; *hex != 0; hex = end) steps[count++] = (uint8_t)strtoul(hex, &end, 16);
-    replay(job, size, steps, count, answer);
+    replay(job, size, steps, put(steps, hex), answer);
     return answer_is(answer, a, b, c, 0);
 }
+
+static void replays(void) {
+    const Job p1 = formed(P1, sizeof P1), p10 = formed(P10, sizeof P10);
+    CHECK(replayed(p1.bytes, p1.size, "00 00 01 01", 1, 0, 0));
+    CHECK(replayed(p1.bytes, p1.size, "00 00 01", 2, 0, 0));
+    CHECK(replayed(p10.bytes, p10.size, "00 00", 3, 1, 3));
+    CHECK(replayed(p10.bytes, p10.size, "24", 3, 0, 1));
+    CHECK(replayed(p1.bytes, p1.size, "24", 3, 0, 1));
+    CHECK(replayed(p1.bytes, p1.size, "FF", 3, 0, 1));
+}
+
+/* What stands at BARRIER in THREE: 6 FENCE or 7 XCHG. */
+static uint8_t barrier;
 
 /* The same of THREE under this model and C. */
 static int three(uint8_t model, uint8_t capacity, const char *hex, uint64_t a, uint64_t b, uint64_t c) {
     uint8_t job[sizeof THREE];
     memcpy(job, THREE, sizeof THREE);
     job[MODEL] = model, job[CAPACITY] = capacity, job[BARRIER] = barrier;
-    return replayed(job, sizeof job, hex, a, b, c);
+    const Job f = formed(job, sizeof job);
+    return replayed(f.bytes, f.size, hex, a, b, c);
 }
 
 /* Each reason under each model where it can come up. Thread t executes by t and flushes its store to v by 4 + 8t + v: thread 0 by 04 and 05,
@@ -366,20 +447,26 @@ static void pairs_of_reasons(void) {
     CHECK(three(TSO, 2, "00 00 00 05", 3, 2, 3));
 }
 
+/* Whether the fence check of this file, in the present form, gives this answer. */
+static int fences_are(const uint8_t *job, size_t size, uint64_t a, uint64_t thread, uint64_t store, uint64_t load) {
+    uint64_t answer[4];
+    const Job f = formed(job, size);
+    fences(f.bytes, f.size, answer);
+    return answer_is(answer, a, thread, store, load);
+}
+
 static void fence_checks(void) {
     uint8_t job[sizeof P1];
     uint64_t answer[4];
-    fences(P1, sizeof P1, answer);
-    CHECK(answer_is(answer, 2, 0, 0, 1));
+    const Job p9 = formed(P9, sizeof P9);
+    CHECK(fences_are(P1, sizeof P1, 2, 0, 0, 1));
     memcpy(job, P1, sizeof P1);
     job[MODEL] = 0, job[CAPACITY] = 0;
-    fences(job, sizeof job, answer);
-    CHECK(answer_is(answer, 2, 0, 0, 1));
-    fences(P9, sizeof P9, answer);
-    CHECK(answer_is(answer, 1, 0, 0, 0));
+    CHECK(fences_are(job, sizeof job, 2, 0, 0, 1));
+    CHECK(fences_are(P9, sizeof P9, 1, 0, 0, 0));
     Lent m = lend(ROOM * SLOT, ROOM, ROOM);
-    search(P9, sizeof P9, &m, answer);
-    CHECK(answer[0] == 2 && answer[2] == 0 && answer[3] == 0);
+    search(p9.bytes, p9.size, &m, answer);
+    CHECK(answer_is(answer, 2, 31, 0, 0));
     give_back(m);
 }
 
@@ -387,19 +474,19 @@ static void fence_checks(void) {
 static void dead_code(void) {
     uint8_t job[sizeof PARKED];
     uint64_t answer[4];
-    fences(PARKED, sizeof PARKED, answer);
-    CHECK(answer_is(answer, 1, 0, 0, 0));
+    const Job parked = formed(PARKED, sizeof PARKED);
+    CHECK(fences_are(PARKED, sizeof PARKED, 1, 0, 0, 0));
     Lent m = lend(ROOM * SLOT, ROOM, ROOM);
-    search(PARKED, sizeof PARKED, &m, answer);
+    search(parked.bytes, parked.size, &m, answer);
     CHECK(answer_is(answer, 2, 63, 0, 0));
     give_back(m);
     memcpy(job, PARKED, sizeof PARKED);
     job[BACK] = 1;
-    fences(job, sizeof job, answer);
-    CHECK(answer_is(answer, 2, 0, 1, 2));
+    CHECK(fences_are(job, sizeof job, 2, 0, 1, 2));
     job[MODEL] = 1, job[CAPACITY] = 2;
+    const Job revived = formed(job, sizeof job);
     m = lend(ROOM * SLOT, ROOM, ROOM);
-    search(job, sizeof job, &m, answer);
+    search(revived.bytes, revived.size, &m, answer);
     CHECK(answer_is(answer, 1, 19, 266, 0));
     give_back(m);
 }
@@ -421,8 +508,7 @@ static void refused(const uint8_t *job, size_t size, uint64_t number, uint64_t o
 
 static void refusals(void) {
     static const uint8_t version[] = {0x00, 0x01, 0x00}, later[] = {0x00, 0x01, 0x04};
-    static const uint8_t cut[] = {0x00, 0x01, 0x01}, cut_two[] = {0x00, 0x01, 0x02};
-    static const uint8_t longest[1109] = {0x04, 0x53, 0x04}, too_long[1110] = {0x04, 0x54, 0x01};
+    static const uint8_t cut[] = {0x00, 0x01, 0x01}, cut_two[] = {0x00, 0x01, 0x02}, cut_three[] = {0x00, 0x01, 0x03};
     uint8_t job[sizeof P1];
     refused(P1, 0, 1, 0);
     refused(P1, 2, 1, 0);
@@ -431,8 +517,7 @@ static void refusals(void) {
     refused(later, sizeof later, 2, VERSION);
     refused(cut, sizeof cut, 6, 3);
     refused(cut_two, sizeof cut_two, 6, 3);
-    refused(longest, sizeof longest, 2, VERSION);
-    refused(too_long, sizeof too_long, 1, 0);
+    refused(cut_three, sizeof cut_three, 6, 3);
     memcpy(job, P1, sizeof P1);
     job[MODEL] = 3;
     refused(job, sizeof job, 3, 3);
@@ -444,97 +529,141 @@ static void refusals(void) {
     refused(job, sizeof job, 5, FLAG);
 }
 
+/* How long a file may be goes by the byte at VERSION, which is judged only then. All else is 0 here, so where length and version are good, T is
+ * not. */
+static void limits(void) {
+    const struct {
+        uint8_t version;
+        size_t size;
+        uint64_t number, offset;
+    } rows[] = {{1, 1109, 3, THREADS},   {1, 1110, 1, 0},       {1, 1389, 1, 0},         {1, 1390, 1, 0},
+                {2, 1109, 3, THREADS},   {2, 1110, 1, 0},       {2, 1389, 1, 0},         {2, 1390, 1, 0},
+                {3, 1109, 3, THREADS},   {3, 1110, 3, THREADS}, {3, 1389, 3, THREADS},   {3, 1390, 1, 0},
+                {4, 1109, 2, VERSION},   {4, 1110, 1, 0},       {4, 1389, 1, 0},         {4, 1390, 1, 0},
+                {0, 1109, 2, VERSION},   {0, 1110, 1, 0},       {255, 1109, 2, VERSION}, {255, 1110, 1, 0},
+                {3, 7, 3, THREADS},      {3, 65537, 1, 0}};
+    for (size_t k = 0; k < sizeof rows / sizeof rows[0]; k++) {
+        const size_t size = rows[k].size, length = size - 2;
+        uint8_t *job = room(size);
+        memset(job, 0, size);
+        job[0] = (uint8_t)(length / 256), job[1] = (uint8_t)(length % 256), job[VERSION] = rows[k].version;
+        refused(job, size, rows[k].number, rows[k].offset);
+        /* The length says one byte too many, then one too few. */
+        refused(job, size - 1, 1, 0);
+        job[1]--;
+        refused(job, size, 1, 0);
+        free(job);
+    }
+}
+
 /* A blank goal: P12, which is P1 up to K with K 0, whatever the flag. A bad flag and a missing K are judged before it, bytes behind it after it. */
 static void blank_goals(void) {
-    uint8_t job[sizeof P1];
+    Job job = formed(P1, sizeof P1);
+    const uint8_t flag = form.version == 3 ? WIDE_FLAG : FLAG, k = flag + 1;
     uint64_t answer[4];
-    memcpy(job, P1, sizeof P1);
-    job[K] = 0;
-    refused(job, sizeof job, 5, K);
-    job[1] = K + 1 - 2;
-    refused(job, K + 1, 5, K);
+    job.bytes[k] = 0;
+    refused(job.bytes, job.size, 5, k);
+    job.bytes[1] = k + 1 - 2;
+    refused(job.bytes, k + 1, 5, k);
     Lent m = lend(0, 0, 0);
-    search(job, K + 1, &m, answer);
-    CHECK(answer_is(answer, 0, 5, K, 0));
+    search(job.bytes, k + 1, &m, answer);
+    CHECK(answer_is(answer, 0, 5, k, 0));
     CHECK(rest_kept(&m, 0, 0, 0));
     give_back(m);
-    job[FLAG] = 1;
-    refused(job, K + 1, 5, K);
-    job[FLAG] = 2;
-    refused(job, K + 1, 5, FLAG);
-    job[FLAG] = 0;
-    job[1] = K - 2;
-    refused(job, K, 6, K);
+    job.bytes[flag] = 1;
+    refused(job.bytes, k + 1, 5, k);
+    job.bytes[flag] = 2;
+    refused(job.bytes, k + 1, 5, flag);
+    job.bytes[flag] = 0;
+    job.bytes[1] = k - 2;
+    refused(job.bytes, k, 6, k);
 }
 
-/* The longest file: TSO, C 8, eight variables, four threads of 64 times SET r0 = 0, and 16 times the clause that thread 0 is at place 0. */
-enum { LONGEST = 64, THREAD = 1 + 4 * LONGEST, FIRST_N = 15, FILE_SIZE = FIRST_N + 4 * THREAD + 2 + 4 * 16 };
-static void make_longest(uint8_t job[FILE_SIZE]) {
-    memset(job, 0, FILE_SIZE);
-    job[0] = (FILE_SIZE - 2) / 256, job[1] = (FILE_SIZE - 2) % 256, job[2] = 1, job[3] = 1, job[4] = 8, job[5] = 4, job[6] = 8;
+/* The longest file of a version: TSO, C 8, eight variables, four threads of 64 times SET r0 = 0, and 16 times the clause that thread 0 is at
+ * place 0. */
+enum { LONGEST = 64, LONGEST_FILE = 1389 };
+typedef struct {
+    size_t item, first_n, thread, clauses, size;
+    uint8_t bytes[LONGEST_FILE + 1];
+} Long;
+
+static Long make_longest(uint8_t version) {
+    const size_t value = version == 3 ? 2 : 1;
+    Long job = {.item = 3 + value, .first_n = VALUES + 8 * value};
+    uint8_t *bytes = job.bytes;
+    job.thread = 1 + LONGEST * job.item, job.clauses = job.first_n + 4 * job.thread + 2, job.size = job.clauses + 16 * job.item;
+    CHECK(job.size == (version == 3 ? LONGEST_FILE : 1109));
+    bytes[0] = (uint8_t)((job.size - 2) / 256), bytes[1] = (uint8_t)((job.size - 2) % 256);
+    bytes[VERSION] = version, bytes[MODEL] = 1, bytes[CAPACITY] = 8, bytes[THREADS] = 4, bytes[VARIABLES] = 8;
     for (size_t t = 0; t < 4; t++) {
-        job[FIRST_N + t * THREAD] = LONGEST;
-        for (size_t p = 0; p < LONGEST; p++) job[FIRST_N + t * THREAD + 1 + 4 * p] = 1;
+        bytes[job.first_n + t * job.thread] = LONGEST;
+        for (size_t p = 0; p < LONGEST; p++) bytes[job.first_n + t * job.thread + 1 + job.item * p] = 1;
     }
-    job[FILE_SIZE - 4 * 16 - 1] = 16;
-    for (size_t k = 0; k < 16; k++) job[FILE_SIZE - 4 * 16 + 4 * k] = 1;
+    bytes[job.clauses - 1] = 16;
+    for (size_t k = 0; k < 16; k++) bytes[job.clauses + job.item * k] = 1;
+    return job;
 }
 
-/* Threads of 64: a file of 1,109 bytes is accepted, one byte more is refused by 1, n = 65 by 4 at its own offset, and place 65 by a jump and
- * by a clause. Thread 3 runs to place 64 alone. A store and a load at its last places are open, and a jump back or a FENCE decides as before. */
-static void long_threads(void) {
-    uint8_t job[FILE_SIZE + 1], steps[LONGEST + 1];
+/* Threads of 64: the longest file is accepted, one byte more is refused by 1, n = 65 by 4 at its own offset, and place 65 by a jump and by a
+ * clause. Thread 3 runs to place 64 alone. A store and a load at its last places are open, and a jump back or a FENCE decides as before. */
+static void long_threads(uint8_t version) {
+    uint8_t steps[LONGEST + 1];
     uint64_t answer[4];
-    uint8_t *last = job + FIRST_N + 3 * THREAD + 1, *clause = job + FILE_SIZE - 4;
-    CHECK(FILE_SIZE == 1109);
-    make_longest(job);
-    replay(job, FILE_SIZE, NULL, 0, answer);
+    Long job = make_longest(version);
+    uint8_t *const bytes = job.bytes, *const last = bytes + job.first_n + 3 * job.thread + 1, *const clause = bytes + job.size - job.item;
+    const size_t item = job.item;
+    replay(bytes, job.size, NULL, 0, answer);
     CHECK(answer_is(answer, 1, 0, 0, 0));
+    Lent m = lend(SLOT, 1, 1);
+    search(bytes, job.size, &m, answer);
+    CHECK(answer_is(answer, 1, 0, 1, 0));
+    CHECK(rest_kept(&m, SLOT, 1, 0));
+    give_back(m);
     for (size_t t = 0; t < 4; t++) {
-        job[FIRST_N + t * THREAD] = LONGEST + 1;
-        refused(job, FILE_SIZE, 4, FIRST_N + t * THREAD);
-        job[FIRST_N + t * THREAD] = LONGEST;
+        bytes[job.first_n + t * job.thread] = LONGEST + 1;
+        refused(bytes, job.size, 4, job.first_n + t * job.thread);
+        bytes[job.first_n + t * job.thread] = LONGEST;
     }
     for (uint8_t op = 8; op <= 9; op++) {
         last[0] = op, last[2] = LONGEST;
-        fences(job, FILE_SIZE, answer);
+        fences(bytes, job.size, answer);
         CHECK(answer_is(answer, 1, 0, 0, 0));
         last[2] = LONGEST + 1;
-        refused(job, FILE_SIZE, 4, (uint64_t)(last - job));
+        refused(bytes, job.size, 4, (uint64_t)(last - bytes));
     }
-    make_longest(job);
-    job[FILE_SIZE] = 0, job[1]++;
-    refused(job, FILE_SIZE + 1, 1, 0);
-    job[1]--;
-    for (size_t k = 0; k < 16; k++) job[FILE_SIZE - 4 * 16 + 4 * k + 1] = 3, job[FILE_SIZE - 4 * 16 + 4 * k + 3] = LONGEST;
+    job = make_longest(version);
+    bytes[1]++;
+    refused(bytes, job.size + 1, 1, 0);
+    bytes[1]--;
+    for (size_t k = 0; k < 16; k++) bytes[job.clauses + item * k + 1] = 3, bytes[job.clauses + item * (k + 1) - 1] = LONGEST;
     memset(steps, 3, sizeof steps);
-    replay(job, FILE_SIZE, steps, LONGEST, answer);
+    replay(bytes, job.size, steps, LONGEST, answer);
     CHECK(answer_is(answer, 1, 0, 0, 0));
-    replay(job, FILE_SIZE, steps, LONGEST - 1, answer);
+    replay(bytes, job.size, steps, LONGEST - 1, answer);
     CHECK(answer_is(answer, 2, 0, 0, 0));
-    replay(job, FILE_SIZE, steps, LONGEST + 1, answer);
+    replay(bytes, job.size, steps, LONGEST + 1, answer);
     CHECK(answer_is(answer, 3, LONGEST, 2, 0));
     /* The last of all steps is there, with nothing to flush; the number behind it is none. */
     steps[0] = 35;
-    replay(job, FILE_SIZE, steps, 1, answer);
+    replay(bytes, job.size, steps, 1, answer);
     CHECK(answer_is(answer, 3, 0, 5, 0));
     steps[0] = 36;
-    replay(job, FILE_SIZE, steps, 1, answer);
+    replay(bytes, job.size, steps, 1, answer);
     CHECK(answer_is(answer, 3, 0, 1, 0));
-    clause[3] = LONGEST + 1;
-    refused(job, FILE_SIZE, 5, (uint64_t)(clause - job));
-    make_longest(job);
-    last[4 * 62] = 5, last[4 * 63] = 3;
-    fences(job, FILE_SIZE, answer);
+    clause[item - 1] = LONGEST + 1;
+    refused(bytes, job.size, 5, (uint64_t)(clause - bytes));
+    job = make_longest(version);
+    last[item * 62] = 5, last[item * 63] = 3;
+    fences(bytes, job.size, answer);
     CHECK(answer_is(answer, 2, 3, 62, 63));
-    last[4 * 62] = 6, last[0] = 5;
-    fences(job, FILE_SIZE, answer);
+    last[item * 62] = 6, last[0] = 5;
+    fences(bytes, job.size, answer);
     CHECK(answer_is(answer, 1, 0, 0, 0));
-    last[4 * 62] = 5, last[4 * 63] = 9, last[0] = 3;
-    fences(job, FILE_SIZE, answer);
+    last[item * 62] = 5, last[item * 63] = 9, last[0] = 3;
+    fences(bytes, job.size, answer);
     CHECK(answer_is(answer, 2, 3, 62, 0));
-    last[4 * 62] = 1, last[4 * 63] = 5;
-    fences(job, FILE_SIZE, answer);
+    last[item * 62] = 1, last[item * 63] = 5;
+    fences(bytes, job.size, answer);
     CHECK(answer_is(answer, 1, 0, 0, 0));
 }
 
@@ -566,40 +695,62 @@ static void versions(void) {
     }
 }
 
-/* A file that uses neither CMPX nor WFENCE answers in version 2 as it does in version 1, and leaves the same behind. */
-static void same_in_both(const uint8_t *job, size_t size) {
-    static const uint8_t steps[] = {0x00, 0x00, 0x01, 0x04};
-    uint8_t *two = room(size);
-    uint64_t one_answer[4], two_answer[4];
-    memcpy(two, job, size);
-    two[VERSION] = 2;
-    for (size_t slots = 0; slots <= ROOM; slots += 20) {
-        Lent one_lent = lend(slots * SLOT, slots, slots), two_lent = lend(slots * SLOT, slots, slots);
-        search(job, size, &one_lent, one_answer);
-        search(two, size, &two_lent, two_answer);
-        CHECK(memcmp(one_answer, two_answer, sizeof one_answer) == 0);
-        CHECK(memcmp(one_lent.table, two_lent.table, slots * SLOT + 2 * guard) == 0);
-        CHECK(memcmp(one_lent.links, two_lent.links, (slots + 2 * guard) * sizeof(uint32_t)) == 0);
-        CHECK(memcmp(one_lent.schedule, two_lent.schedule, slots + 2 * guard) == 0);
-        give_back(one_lent);
-        give_back(two_lent);
-    }
-    for (size_t count = 0; count <= sizeof steps; count++) {
-        replay(job, size, steps, count, one_answer);
-        replay(two, size, steps, count, two_answer);
-        CHECK(memcmp(one_answer, two_answer, sizeof one_answer) == 0);
-    }
-    fences(job, size, one_answer);
-    fences(two, size, two_answer);
-    CHECK(memcmp(one_answer, two_answer, sizeof one_answer) == 0);
-    free(two);
+/* What a slot of version 1 or 2 is in the present form. */
+static void slot_formed(const uint8_t *slot, uint8_t *expected) {
+    memcpy(expected, slot, SLOT);
+    for (size_t i = REGISTERS; i < BUFFERS; i += 2) put_value(expected + i, slot[i + 1]);
+    for (size_t t = 0; t < 4; t++)
+        for (size_t i = BUFFERS + BUFFER * t + 1; i < BUFFERS + BUFFER * (t + 1); i += ENTRY) put_value(expected + i + 1, slot[i + 2]);
 }
 
-static void both_versions(void) {
-    same_in_both(P1, sizeof P1);
-    same_in_both(P9, sizeof P9);
-    same_in_both(P10, sizeof P10);
-    same_in_both(THREE, sizeof THREE);
+/* A file of version 1 or 2 answers in every form from this one on as it does in this one, and leaves the same behind but for the values' bytes. */
+static void same_in_all(const uint8_t *narrow, size_t size, size_t first) {
+    static const uint8_t steps[] = {0x00, 0x00, 0x01, 0x04};
+    for (size_t k = first + 1; k < FORM_COUNT; k++) {
+        uint8_t expected[SLOT];
+        uint64_t one_answer[4], other_answer[4];
+        form = FORMS[first];
+        const Job one = formed(narrow, size);
+        form = FORMS[k];
+        const Job other = formed(narrow, size);
+        for (size_t slots = 0; slots <= ROOM; slots += 20) {
+            Lent one_lent = lend(slots * SLOT, slots, slots), other_lent = lend(slots * SLOT, slots, slots);
+            search(one.bytes, one.size, &one_lent, one_answer);
+            search(other.bytes, other.size, &other_lent, other_answer);
+            CHECK(memcmp(one_answer, other_answer, sizeof one_answer) == 0);
+            const uint64_t *a = one_answer;
+            const size_t counted = a[0] == 0 ? 0 : a[0] == 1 ? a[2] : a[1], found = a[0] == 1 ? a[1] : 0;
+            for (size_t i = 0; i < counted; i++) {
+                slot_formed(one_lent.table + guard + i * SLOT, expected);
+                CHECK(memcmp(other_lent.table + guard + i * SLOT, expected, SLOT) == 0);
+            }
+            CHECK(memcmp(one_lent.links, other_lent.links, (slots + 2 * guard) * sizeof(uint32_t)) == 0);
+            CHECK(memcmp(one_lent.schedule, other_lent.schedule, slots + 2 * guard) == 0);
+            CHECK(rest_kept(&one_lent, counted * SLOT, counted, found));
+            CHECK(rest_kept(&other_lent, counted * SLOT, counted, found));
+            give_back(one_lent);
+            give_back(other_lent);
+        }
+        for (size_t count = 0; count <= sizeof steps; count++) {
+            replay(one.bytes, one.size, steps, count, one_answer);
+            replay(other.bytes, other.size, steps, count, other_answer);
+            CHECK(memcmp(one_answer, other_answer, sizeof one_answer) == 0);
+        }
+        fences(one.bytes, one.size, one_answer);
+        fences(other.bytes, other.size, other_answer);
+        CHECK(memcmp(one_answer, other_answer, sizeof one_answer) == 0);
+    }
+}
+
+static void all_versions(void) {
+    same_in_all(P1, sizeof P1, 0);
+    same_in_all(P9, sizeof P9, 0);
+    same_in_all(P10, sizeof P10, 0);
+    same_in_all(THREE, sizeof THREE, 0);
+    same_in_all(PARKED, sizeof PARKED, 0);
+    same_in_all(PASSING, sizeof PASSING, 1);
+    same_in_all(GROUPS, sizeof GROUPS, 1);
+    same_in_all(COMPARING, sizeof COMPARING, 1);
 }
 
 /* Message passing under PSO: with the WFENCE the goal is never reached, and without it by y's flush before x's. */
@@ -611,13 +762,14 @@ static void store_store_fence(void) {
     const size_t slots[] = {3, 7, 9, 13};
     const uint32_t links[] = {64 * 1 + 0, 64 * 3 + 0, 64 * 3 + 4, 64 * 7 + 4};
     uint8_t job[sizeof PASSING];
+    const Job passing = formed(PASSING, sizeof PASSING);
     uint64_t answer[4];
-    expected[0][0] = 2, expected[0][28] = 128 + 1, expected[0][30] = 1;
-    expected[1][0] = 3, expected[1][28] = 2, expected[1][30] = 1, expected[1][31] = 16 + 1, expected[1][32] = 1;
-    expected[2][0] = 2, expected[2][20] = 1;
-    expected[3][0] = 3, expected[3][20] = 1, expected[3][28] = 1, expected[3][29] = 1, expected[3][30] = 1;
+    expected[0][0] = 2, expected[0][BUFFERS] = 128 + 1, put_entry(expected[0], 0, 0, 0, 1);
+    expected[1][0] = 3, expected[1][BUFFERS] = 2, put_entry(expected[1], 0, 0, 0, 1), put_entry(expected[1], 0, 1, 16 + 1, 1);
+    expected[2][0] = 2, put_value(expected[2] + MEMORY, 1);
+    expected[3][0] = 3, put_value(expected[3] + MEMORY, 1), expected[3][BUFFERS] = 1, put_entry(expected[3], 0, 0, 1, 1);
     Lent m = lend(ROOM * SLOT, ROOM, ROOM);
-    search(PASSING, sizeof PASSING, &m, answer);
+    search(passing.bytes, passing.size, &m, answer);
     CHECK(answer_is(answer, 2, 30, 0, 0));
     for (size_t k = 0; k < 4; k++) {
         CHECK(memcmp(m.table + guard + slots[k] * SLOT, expected[k], SLOT) == 0);
@@ -627,17 +779,18 @@ static void store_store_fence(void) {
     give_back(m);
     memcpy(job, PASSING, sizeof PASSING);
     job[BETWEEN] = 2;
+    Job plain = formed(job, sizeof job);
     m = lend(ROOM * SLOT, ROOM, ROOM);
-    search(job, sizeof job, &m, answer);
+    search(plain.bytes, plain.size, &m, answer);
     CHECK(answer[0] == 1 && answer[1] == sizeof steps && answer[3] == 0);
     CHECK(memcmp(m.schedule + guard, steps, sizeof steps) == 0);
     CHECK(rest_kept(&m, answer[2] * SLOT, answer[2], sizeof steps));
     give_back(m);
     /* The same schedule is stuck at the flush of y while x is pending in an older group. */
-    CHECK(replayed(PASSING, sizeof PASSING, "00 00 00 05 01 01", 3, 3, 6));
-    job[MODEL] = TSO;
+    CHECK(replayed(passing.bytes, passing.size, "00 00 00 05 01 01", 3, 3, 6));
+    plain.bytes[MODEL] = TSO;
     m = lend(ROOM * SLOT, ROOM, ROOM);
-    search(job, sizeof job, &m, answer);
+    search(plain.bytes, plain.size, &m, answer);
     CHECK(answer[0] == 2);
     give_back(m);
 }
@@ -648,7 +801,8 @@ static int groups(uint8_t model, uint8_t capacity, const uint8_t clause[4], cons
     memcpy(job, GROUPS, sizeof GROUPS);
     job[MODEL] = model, job[CAPACITY] = capacity;
     memcpy(job + CLAUSE, clause, 4);
-    return replayed(job, sizeof job, hex, a, b, c);
+    const Job f = formed(job, sizeof job);
+    return replayed(f.bytes, f.size, hex, a, b, c);
 }
 
 /* Steps of the one thread are 00, its flushes to x, y, z 04, 05, 06. */
@@ -686,27 +840,29 @@ static void group_reasons(void) {
 
 /* Whether a counted slot has thread 0 at this place with this buffer, and 0 behind it. */
 static int has_buffer(const Lent *m, size_t counted, uint8_t place, const uint8_t *bytes, size_t size) {
-    uint8_t buffer[17] = {0};
+    uint8_t buffer[BUFFER] = {0};
     memcpy(buffer, bytes, size);
     for (size_t i = 0; i < counted; i++) {
         const uint8_t *slot = m->table + guard + i * SLOT;
-        if (slot[0] == place && memcmp(slot + 28, buffer, sizeof buffer) == 0) return 1;
+        if (slot[0] == place && memcmp(slot + BUFFERS, buffer, sizeof buffer) == 0) return 1;
     }
     return 0;
 }
 
-/* The buffers of GROUPS in the slots: pairs by group and then by variable, groups from the oldest present, the mark while a store is there. */
+/* The buffers of GROUPS in the slots: entries by group and then by variable, groups from the oldest present, the mark while a store is there. */
 static void group_slots(void) {
-    static const uint8_t none[] = {0}, first[] = {128 + 1, 0, 1}, joined[] = {2, 0, 1, 17, 2}, full[] = {3, 0, 1, 16, 3, 17, 2};
-    static const uint8_t marked[] = {128 + 3, 0, 1, 16, 3, 17, 2}, renumbered[] = {128 + 2, 0, 3, 1, 2};
-    static const uint8_t x_left[] = {128 + 1, 0, 3}, y_left[] = {128 + 1, 1, 2};
+    const uint8_t h = form.high, l = form.low, h2 = 2 * h, l2 = 2 * l, h3 = 3 * h, l3 = 3 * l;
+    const uint8_t none[] = {0}, first[] = {128 + 1, 0, h, l}, joined[] = {2, 0, h, l, 17, h2, l2}, full[] = {3, 0, h, l, 16, h3, l3, 17, h2, l2};
+    const uint8_t marked[] = {128 + 3, 0, h, l, 16, h3, l3, 17, h2, l2}, renumbered[] = {128 + 2, 0, h3, l3, 1, h2, l2};
+    const uint8_t x_left[] = {128 + 1, 0, h3, l3}, y_left[] = {128 + 1, 1, h2, l2};
     const uint8_t never[4] = {2, 0, 0, 9};
     uint8_t job[sizeof GROUPS];
     uint64_t answer[4];
     memcpy(job, GROUPS, sizeof GROUPS);
     memcpy(job + CLAUSE, never, 4);
+    const Job f = formed(job, sizeof job);
     Lent m = lend(ROOM * SLOT, ROOM, ROOM);
-    search(job, sizeof job, &m, answer);
+    search(f.bytes, f.size, &m, answer);
     CHECK(answer[0] == 2);
     const size_t counted = answer[1];
     for (uint8_t place = 2; place <= 3; place++) {
@@ -724,8 +880,8 @@ static void group_slots(void) {
     /* No mark without a store, and none once a store has joined. */
     for (size_t i = 0; i < counted; i++) {
         const uint8_t *slot = m.table + guard + i * SLOT;
-        CHECK(slot[28] != 128);
-        CHECK(slot[28] < 128 || slot[0] == 2 || slot[0] == 3 || slot[0] == 6);
+        CHECK(slot[BUFFERS] != 128);
+        CHECK(slot[BUFFERS] < 128 || slot[0] == 2 || slot[0] == 3 || slot[0] == 6);
     }
     CHECK(rest_kept(&m, counted * SLOT, counted, 0));
     give_back(m);
@@ -734,99 +890,442 @@ static void group_slots(void) {
 /* Each CMPX in the slots: 0 is 0, and x becomes 5; 0 is not 5, and r0 becomes 5; 5 is 5, and x becomes 9. */
 static void compare_exchange(void) {
     const uint8_t states[4][3] = {{0, 0, 0}, {1, 0, 5}, {2, 5, 5}, {3, 5, 9}};
+    const Job comparing = formed(COMPARING, sizeof COMPARING);
     uint64_t answer[4];
     Lent m = lend(ROOM * SLOT, ROOM, ROOM);
-    search(COMPARING, sizeof COMPARING, &m, answer);
+    search(comparing.bytes, comparing.size, &m, answer);
     CHECK(answer_is(answer, 1, 3, 4, 0));
     for (size_t k = 0; k < 4; k++) {
-        const uint8_t *slot = m.table + guard + k * SLOT;
-        CHECK(slot[0] == states[k][0] && slot[4] == states[k][1] && slot[20] == states[k][2]);
+        uint8_t expected[SLOT] = {0};
+        expected[0] = states[k][0], put_value(expected + REGISTERS, states[k][1]), put_value(expected + MEMORY, states[k][2]);
+        CHECK(memcmp(m.table + guard + k * SLOT, expected, SLOT) == 0);
     }
     CHECK(rest_kept(&m, 4 * SLOT, 4, 3));
     give_back(m);
 }
 
-/* P9 in version 2 with CMPX or WFENCE in place of its fences: CMPX is a fence to the check, WFENCE is none, and neither is a store or a load. */
-static void version_two_fences(void) {
+/* P9 with CMPX or WFENCE in place of its fences: CMPX is a fence to the check, WFENCE is none, and neither is a store or a load. */
+static void later_fences(void) {
     enum { FIRST = 14, SECOND = 27 };
     const uint8_t cmpx[4] = {0x0A, 0, 0, 1}, wfence[4] = {0x0B, 0, 0, 0};
     uint8_t job[sizeof P9];
-    uint64_t answer[4];
     memcpy(job, P9, sizeof P9);
-    job[VERSION] = 2;
     memcpy(job + FIRST, cmpx, 4), memcpy(job + SECOND, cmpx, 4);
-    fences(job, sizeof job, answer);
-    CHECK(answer_is(answer, 1, 0, 0, 0));
+    CHECK(fences_are(job, sizeof job, 1, 0, 0, 0));
     memcpy(job + SECOND, wfence, 4);
-    fences(job, sizeof job, answer);
-    CHECK(answer_is(answer, 2, 1, 0, 2));
+    CHECK(fences_are(job, sizeof job, 2, 1, 0, 2));
     memcpy(job + FIRST, wfence, 4);
-    fences(job, sizeof job, answer);
-    CHECK(answer_is(answer, 2, 0, 0, 2));
+    CHECK(fences_are(job, sizeof job, 2, 0, 0, 2));
     /* In place of the stores too: then there is no store. */
     memcpy(job + FIRST - 4, cmpx, 4), memcpy(job + SECOND - 4, wfence, 4);
-    fences(job, sizeof job, answer);
-    CHECK(answer_is(answer, 1, 0, 0, 0));
+    CHECK(fences_are(job, sizeof job, 1, 0, 0, 0));
     /* Stores, and in place of the loads CMPX and WFENCE: then there is no load. */
     memcpy(job, P9, sizeof P9);
-    job[VERSION] = 2;
     memcpy(job + FIRST, wfence, 4), memcpy(job + SECOND, wfence, 4);
     memcpy(job + FIRST + 4, cmpx, 4), memcpy(job + SECOND + 4, wfence, 4);
-    fences(job, sizeof job, answer);
-    CHECK(answer_is(answer, 1, 0, 0, 0));
+    CHECK(fences_are(job, sizeof job, 1, 0, 0, 0));
 }
 
 /* Nothing lent: refusal 7 for whichever buffer is empty, and 1 to 6 before it. NULL stands for an empty buffer. */
 static void empty_buffers(void) {
     static const uint8_t version[] = {0x00, 0x01, 0x00};
+    const Job p1 = formed(P1, sizeof P1);
     uint64_t answer[4];
-    size_t sizes[4][3] = {{0, ROOM, ROOM}, {95, ROOM, ROOM}, {ROOM * SLOT, 0, ROOM}, {ROOM * SLOT, ROOM, 0}};
+    size_t sizes[4][3] = {{0, ROOM, ROOM}, {SLOT - 1, ROOM, ROOM}, {ROOM * SLOT, 0, ROOM}, {ROOM * SLOT, ROOM, 0}};
     for (size_t k = 0; k < 4; k++) {
         Lent m = lend(sizes[k][0], sizes[k][1], sizes[k][2]);
-        search(P1, sizeof P1, &m, answer);
+        search(p1.bytes, p1.size, &m, answer);
         CHECK(answer_is(answer, 0, 7, 0, 0));
         search(version, sizeof version, &m, answer);
         CHECK(answer_is(answer, 0, 2, 2, 0));
         CHECK(rest_kept(&m, 0, 0, 0));
         give_back(m);
     }
-    handshake_search(P1, sizeof P1, NULL, 0, NULL, 0, NULL, 0, answer);
+    handshake_search(p1.bytes, p1.size, NULL, 0, NULL, 0, NULL, 0, answer);
     CHECK(answer_is(answer, 0, 7, 0, 0));
     handshake_search(NULL, 0, NULL, 0, NULL, 0, NULL, 0, answer);
     CHECK(answer_is(answer, 0, 1, 0, 0));
     handshake_replay(NULL, 0, NULL, 0, answer);
     CHECK(answer_is(answer, 0, 1, 0, 0));
-    handshake_replay(P1, sizeof P1, NULL, 0, answer);
+    handshake_replay(p1.bytes, p1.size, NULL, 0, answer);
     CHECK(answer_is(answer, 2, 0, 0, 0));
     handshake_fences(NULL, 0, answer);
     CHECK(answer_is(answer, 0, 1, 0, 0));
+}
+
+/* P1 in version 3, as a file: a byte for each fault, and a cut at each length. */
+static void wide_file(void) {
+    /* Where each item begins, from the model on, and where the last ends. The initial values at 7 and 9 have two bytes, and half of one is none. */
+    const uint8_t starts[] = {3, 4, 5, 6, 7, 9, 11, 12, 17, 22, 23, 28, 33, 34, 35, 40, 45, 50, sizeof WIDE};
+    const struct {
+        uint8_t at, byte, number;
+    } faults[] = {{MODEL, 3, 3},     {CAPACITY, 0, 3}, {CAPACITY, 9, 3}, {THREADS, 0, 3},   {THREADS, 5, 3}, {VARIABLES, 0, 3},
+                  {VARIABLES, 9, 3}, {11, 65, 4},      {22, 255, 4},     {WIDE_FLAG, 2, 5}, {WIDE_K, 0, 5},  {WIDE_K, 17, 5}};
+    uint8_t job[sizeof WIDE + 1];
+    form = FORMS[FIRST_WIDE];
+    const Job p1 = formed(P1, sizeof P1);
+    CHECK(p1.size == sizeof WIDE && memcmp(p1.bytes, WIDE, sizeof WIDE) == 0);
+    for (size_t k = 0; k < sizeof faults / sizeof faults[0]; k++) {
+        memcpy(job, WIDE, sizeof WIDE);
+        job[faults[k].at] = faults[k].byte;
+        refused(job, sizeof WIDE, faults[k].number, faults[k].at);
+    }
+    memcpy(job, WIDE, sizeof WIDE);
+    job[MODEL] = SC;
+    refused(job, sizeof WIDE, 3, CAPACITY);
+    job[MODEL] = PSO, job[CAPACITY] = 8;
+    CHECK(replayed(job, sizeof WIDE, "", 2, 0, 0));
+    for (uint8_t size = 3; size < sizeof WIDE; size++) {
+        size_t k = 0;
+        while (starts[k + 1] <= size) k++;
+        /* What is there of the item that is cut is bad, if it can be: that it isn't wholly there comes first. */
+        for (int spoilt = 0; spoilt < 2; spoilt++) {
+            memcpy(job, WIDE, sizeof WIDE);
+            job[1] = size - 2;
+            if (spoilt) memset(job + starts[k], 255, size - starts[k]);
+            refused(job, size, 6, starts[k]);
+        }
+    }
+    memcpy(job, WIDE, sizeof WIDE);
+    job[sizeof WIDE] = 0, job[1]++;
+    refused(job, sizeof job, 6, sizeof WIDE);
+    /* P1 as it stands in version 1, said to be version 3: values 0 and 0205, no instructions, flag 1, K 3, and a clause of kind 0. The other way
+     * round: no instructions, and the flag is 2. */
+    memcpy(job, P1, sizeof P1);
+    job[VERSION] = 3;
+    refused(job, sizeof P1, 5, 15);
+    memcpy(job, WIDE, sizeof WIDE);
+    for (job[VERSION] = 1; job[VERSION] <= 2; job[VERSION]++) refused(job, sizeof WIDE, 5, 11);
+}
+
+/* Each operation and each clause of version 3, with the ends of each operand and one more, and each byte that must be 0. */
+static void operands(void) {
+    /* A line for each operation; there are two variables, and two instructions. */
+    const char *const sound[] = {"01 00 00 00 00", "01 03 00 FF FF",
+                                 "02 00 00 00 00", "02 03 00 FF FF",
+                                 "03 00 00 00 00", "03 03 01 00 00",
+                                 "04 00 00 00 00", "04 03 01 00 00",
+                                 "05 00 00 00 00", "05 00 01 FF FF",
+                                 "06 00 00 00 00",
+                                 "07 00 00 00 00", "07 03 01 00 00",
+                                 "08 00 00 00 00", "08 03 02 FF FF",
+                                 "09 00 00 00 00", "09 00 02 00 00",
+                                 "0A 00 00 00 00", "0A 03 01 FF FF",
+                                 "0B 00 00 00 00"};
+    const char *const bad[] = {"00 00 00 00 00", "0C 00 00 00 00", "FF 00 00 00 00",
+                               "01 04 00 00 01", "01 00 01 00 01",
+                               "02 04 00 00 01", "02 00 01 00 01",
+                               "03 04 00 00 00", "03 00 02 00 00", "03 00 00 01 00", "03 00 00 00 01",
+                               "04 04 00 00 00", "04 00 02 00 00", "04 00 00 01 00", "04 00 00 00 01",
+                               "05 01 00 00 01", "05 00 02 00 01",
+                               "06 01 00 00 00", "06 00 01 00 00", "06 00 00 01 00", "06 00 00 00 01",
+                               "07 04 00 00 00", "07 00 02 00 00", "07 00 00 01 00", "07 00 00 00 01",
+                               "08 04 00 00 01", "08 00 03 00 01",
+                               "09 01 00 00 00", "09 00 03 00 00", "09 00 00 01 00", "09 00 00 00 01",
+                               "0A 04 00 00 01", "0A 00 02 00 01",
+                               "0B 01 00 00 00", "0B 00 01 00 00", "0B 00 00 01 00", "0B 00 00 00 01"};
+    const char *const sound_clauses[] = {"01 00 00 00 00", "01 01 00 00 02",
+                                         "02 00 00 00 00", "02 01 03 FF FF",
+                                         "03 00 00 00 00", "03 01 00 FF FF"};
+    /* Of the places 3 is above n; 0100, 0102 and 0202 are a good one and 256 or 512. */
+    const char *const bad_clauses[] = {"00 00 00 00 00", "04 00 00 00 00",
+                                       "01 02 00 00 00", "01 00 01 00 00", "01 00 00 00 03",
+                                       "01 00 00 01 00", "01 00 00 01 02", "01 01 00 02 02", "01 00 00 FF FF",
+                                       "02 02 00 00 00", "02 00 04 00 00",
+                                       "03 02 00 00 00", "03 00 01 00 00"};
+    uint8_t job[sizeof WIDE];
+    memcpy(job, WIDE, sizeof WIDE);
+    for (size_t k = 0; k < sizeof sound / sizeof sound[0]; k++) {
+        CHECK(put(job + WIDE_INSTRUCTION, sound[k]) == ITEM);
+        CHECK(replayed(job, sizeof job, "", 2, 0, 0));
+    }
+    for (size_t k = 0; k < sizeof bad / sizeof bad[0]; k++) {
+        CHECK(put(job + WIDE_INSTRUCTION, bad[k]) == ITEM);
+        refused(job, sizeof job, 4, WIDE_INSTRUCTION);
+    }
+    memcpy(job, WIDE, sizeof WIDE);
+    for (size_t k = 0; k < sizeof sound_clauses / sizeof sound_clauses[0]; k++) {
+        CHECK(put(job + WIDE_CLAUSE, sound_clauses[k]) == ITEM);
+        CHECK(replayed(job, sizeof job, "", 2, 0, 0));
+    }
+    for (size_t k = 0; k < sizeof bad_clauses / sizeof bad_clauses[0]; k++) {
+        CHECK(put(job + WIDE_CLAUSE, bad_clauses[k]) == ITEM);
+        refused(job, sizeof job, 5, WIDE_CLAUSE);
+    }
+}
+
+/* Searches the job in ROOM slots and checks the answer and that nothing else was written. */
+static Lent searched(Job job, uint64_t a, uint64_t b, uint64_t c) {
+    uint64_t answer[4];
+    Lent m = lend(ROOM * SLOT, ROOM, ROOM);
+    search(job.bytes, job.size, &m, answer);
+    CHECK(answer_is(answer, a, b, c, 0));
+    const size_t counted = a == 1 ? c : b;
+    CHECK(rest_kept(&m, counted * SLOT, counted, a == 1 ? b : 0));
+    return m;
+}
+
+static void search_gives(Job job, uint64_t a, uint64_t b, uint64_t c) { give_back(searched(job, a, b, c)); }
+
+/* Whether a slot has these bytes, and 0 everywhere else: of thread 0, or of threads 0 and 1, the places, registers and memory, and both buffers. */
+static int slot_is(const Lent *m, size_t slot, const char *places, const char *registers, const char *memory, const char *first,
+                   const char *second) {
+    uint8_t expected[SLOT] = {0};
+    put(expected + 0, places), put(expected + 4, registers), put(expected + 36, memory), put(expected + 52, first), put(expected + 77, second);
+    return memcmp(m->table + guard + slot * SLOT, expected, SLOT) == 0;
+}
+
+/* Whether one of the counted slots is so. */
+static int one_is(const Lent *m, size_t counted, const char *places, const char *registers, const char *memory, const char *buffer) {
+    for (size_t slot = 0; slot < counted; slot++)
+        if (slot_is(m, slot, places, registers, memory, buffer, "")) return 1;
+    return 0;
+}
+
+/* P1 with values that need both bytes: x is 0102 and y 0304 at the start, thread 0 stores 1234 to x, thread 1 ABCD to y. */
+static const char *const BUFFERING = "03 01 01 02 02  01 02 03 04  02  05 00 00 12 34  03 00 01 00 00  02  05 00 01 AB CD  03 00 00 00 00";
+
+static void wide_buffering(void) {
+    Lent m = searched(file(BUFFERING, "00 04  01 00 00 00 02  01 01 00 00 02  02 00 00 03 04  02 01 00 01 02"), 1, 4, 22);
+    CHECK(memcmp(m.schedule + guard, "\x00\x00\x01\x01", 4) == 0);
+    CHECK(slot_is(&m, 0, "", "", "01 02 03 04", "", ""));
+    CHECK(slot_is(&m, 1, "01", "", "01 02 03 04", "01 00 12 34", ""));
+    CHECK(slot_is(&m, 2, "00 01", "", "01 02 03 04", "", "01 01 AB CD"));
+    /* From slot 1: thread 0 loads y, thread 1 stores, x is flushed. From slot 2, but for what slot 4 has: thread 1 loads x, y is flushed. */
+    const uint32_t links[] = {64 * 1 + 0, 64 * 1 + 1, 64 * 1 + 4, 64 * 2 + 1, 64 * 2 + 13};
+    CHECK(memcmp(m.links + guard + 3, links, sizeof links) == 0);
+    CHECK(slot_is(&m, 3, "02", "03 04", "01 02 03 04", "01 00 12 34", ""));
+    CHECK(slot_is(&m, 4, "01 01", "", "01 02 03 04", "01 00 12 34", "01 01 AB CD"));
+    CHECK(slot_is(&m, 5, "01", "", "12 34 03 04", "", ""));
+    CHECK(slot_is(&m, 6, "00 02", "00 00 00 00 00 00 00 00 01 02", "01 02 03 04", "", "01 01 AB CD"));
+    CHECK(slot_is(&m, 7, "00 01", "", "01 02 AB CD", "", ""));
+    give_back(m);
+}
+
+/* A clause of a register or of memory holds by both bytes: of 0304 in a register and 1234 in memory, one byte too high, one alone, and the two
+ * the wrong way round. P1 has 34 states in all. */
+static void wide_clauses(void) {
+    const char *const never[] = {"00 01  02 00 00 03 05", "00 01  02 00 00 04 04", "00 01  02 00 00 00 04", "00 01  02 00 00 03 00",
+                                 "00 01  02 00 00 04 03", "00 01  03 00 00 12 35", "00 01  03 00 00 13 34", "00 01  03 00 00 00 34",
+                                 "00 01  03 00 00 12 00", "00 01  03 00 00 34 12", "00 01  03 01 00 FF FF", "00 01  02 00 03 00 01"};
+    for (size_t k = 0; k < sizeof never / sizeof never[0]; k++) search_gives(file(BUFFERING, never[k]), 2, 34, 0);
+    search_gives(file(BUFFERING, "00 02  03 00 00 01 02  03 01 00 03 04"), 1, 0, 1);
+    /* x in memory is 1234 behind 00 04, and thread 0 has read 0304 behind 00 00: both are two steps away, and 8 states at most two. */
+    Lent m = searched(file(BUFFERING, "00 01  03 00 00 12 34"), 1, 2, 8);
+    CHECK(memcmp(m.schedule + guard, "\x00\x04", 2) == 0);
+    give_back(m);
+    m = searched(file(BUFFERING, "00 01  02 00 00 03 04"), 1, 2, 8);
+    CHECK(memcmp(m.schedule + guard, "\x00\x00", 2) == 0);
+    give_back(m);
+}
+
+/* SC, one thread that never stores to x, whose value is FFFF: k and an initial value at their end, ADD over it, and over a byte's. */
+static void wide_adding(void) {
+    static const char program[] = "03 00 00 01 01  FF FF  0A  01 00 00 FF FF  02 00 00 00 01  01 01 00 00 FF  02 01 00 00 01  02 01 00 FE FF"
+                                  "  02 01 00 FF FF  02 01 00 00 02  01 02 00 80 80  02 02 00 80 81  03 03 00 00 00";
+    const char *const states[][2] = {{"00", ""},
+                                     {"01", "FF FF"},
+                                     {"02", "00 00"},
+                                     {"03", "00 00 00 FF"},
+                                     {"04", "00 00 01 00"},
+                                     {"05", "00 00 FF FF"},
+                                     {"06", "00 00 FF FE"},
+                                     {"07", "00 00 00 00"},
+                                     {"08", "00 00 00 00 80 80"},
+                                     {"09", "00 00 00 00 01 01"},
+                                     {"0A", "00 00 00 00 01 01 FF FF"}};
+    Lent m = searched(file(program, "00 02  02 00 02 01 01  02 00 03 FF FF"), 1, 10, 11);
+    for (size_t k = 0; k < 11; k++) CHECK(slot_is(&m, k, states[k][0], states[k][1], "FF FF", "", ""));
+    give_back(m);
+    /* What 8080 + 8081 would be with no carry between the bytes, and 255 + 1 if it wrapped as in version 1. */
+    search_gives(file(program, "00 01  02 00 02 00 01"), 2, 11, 0);
+    search_gives(file(program, "00 02  01 00 00 00 04  02 00 01 00 00"), 2, 11, 0);
+}
+
+/* In versions 1 and 2 ADD stays below 256, and the high bytes stay 0: 255 + 1 is 0, and 128 + 200 is 72. */
+static void narrow_adding(void) {
+    const char *const states[][2] = {{"00", ""}, {"01", "00 FF"}, {"02", "00 00"}, {"03", "00 00 00 80"}, {"04", "00 00 00 48"}};
+    Job job = file("01 00 00 01 01  FF  04  01 00 00 FF  02 00 00 01  01 01 00 80  02 01 00 C8", "00 01  02 00 01 48");
+    for (uint8_t version = 1; version <= 2; version++) {
+        job.bytes[VERSION] = version;
+        Lent m = searched(job, 1, 4, 5);
+        for (size_t k = 0; k < 5; k++) CHECK(slot_is(&m, k, states[k][0], states[k][1], "00 FF", "", ""));
+        give_back(m);
+    }
+}
+
+/* JEQ by both bytes: 1234 is not 1334, 1235, 0034, 1200 or 3412, and FFFF is not 00FF. Whoever jumps there stays at place 11. */
+static void wide_jumps(void) {
+    static const char program[] = "03 00 00 01 01  00 00  0C  01 00 00 12 34  08 00 0B 13 34  08 00 0B 12 35  08 00 0B 00 34  08 00 0B 12 00"
+                                  "  08 00 0B 34 12  08 00 08 12 34  09 00 0B 00 00  01 00 00 FF FF  08 00 0B 00 FF  08 00 0C FF FF"
+                                  "  09 00 0B 00 00";
+    const char *const places[] = {"00", "01", "02", "03", "04", "05", "06", "08", "09", "0A", "0C"};
+    Lent m = searched(file(program, "00 01  01 00 00 00 0C"), 1, 10, 11);
+    for (size_t k = 0; k < 11; k++) CHECK(slot_is(&m, k, places[k], k == 0 ? "" : k < 8 ? "12 34" : "FF FF", "", "", ""));
+    give_back(m);
+}
+
+/* CMPX by both bytes, of r0 and x: 0000 is not 0100; 0100 is, and x becomes 0001; 0101 and 0002 are not 0001; 0001 is, and x becomes FFFF, which
+ * r0 then takes. */
+static void wide_comparing(void) {
+    static const char program[] = " 01 01  01 00  08  0A 00 00 05 05  0A 00 00 00 01  01 00 00 01 01  0A 00 00 FF FF  01 00 00 00 02"
+                                  "  0A 00 00 FF FF  0A 00 00 FF FF  0A 00 00 00 00";
+    static const char *const models[] = {"03 00 00", "03 01 01", "03 02 08"};
+    const char *const states[][3] = {{"00", "00 00", "01 00"}, {"01", "01 00", "01 00"}, {"02", "01 00", "00 01"},
+                                     {"03", "01 01", "00 01"}, {"04", "00 01", "00 01"}, {"05", "00 02", "00 01"},
+                                     {"06", "00 01", "00 01"}, {"07", "00 01", "FF FF"}, {"08", "FF FF", "FF FF"}};
+    for (size_t model = 0; model < 3; model++) {
+        char whole[sizeof program + 16];
+        snprintf(whole, sizeof whole, "%s%s", models[model], program);
+        Lent m = searched(file(whole, "00 02  02 00 00 FF FF  03 00 00 FF FF"), 1, 8, 9);
+        for (size_t k = 0; k < 9; k++) CHECK(slot_is(&m, k, states[k][0], states[k][1], states[k][2], "", ""));
+        give_back(m);
+    }
+}
+
+/* One thread, C 3: x = 0111, WFENCE, x = 0211, r0 takes x, y takes r0, FENCE, r1 and y change places, r2 takes x. r3 is never 1, so all states
+ * are counted: by place and by what is flushed 1, 2, 2, 3, 3, 4, 1, 1, 1 under TSO; under PSO y may go before the second x, so 5 at place 5. */
+static void wide_stores(void) {
+    static const char program[] = "03 01 03 01 02  00 11 07 07  08  05 00 00 01 11  0B 00 00 00 00  05 00 00 02 11  03 00 00 00 00"
+                                  "  04 00 01 00 00  06 00 00 00 00  07 01 01 00 00  03 02 00 00 00";
+    Job job = file(program, "00 01  02 00 03 00 01");
+    Lent tso = searched(job, 2, 18, 0);
+    CHECK(one_is(&tso, 18, "02", "", "00 11 07 07", "01 00 01 11"));
+    CHECK(one_is(&tso, 18, "03", "", "00 11 07 07", "02 00 01 11 00 02 11"));
+    CHECK(one_is(&tso, 18, "04", "02 11", "00 11 07 07", "02 00 01 11 00 02 11"));
+    CHECK(one_is(&tso, 18, "05", "02 11", "00 11 07 07", "03 00 01 11 00 02 11 01 02 11"));
+    CHECK(one_is(&tso, 18, "05", "02 11", "01 11 07 07", "02 00 02 11 01 02 11"));
+    CHECK(one_is(&tso, 18, "05", "02 11", "02 11 07 07", "01 01 02 11"));
+    CHECK(one_is(&tso, 18, "05", "02 11", "02 11 02 11", ""));
+    CHECK(one_is(&tso, 18, "07", "02 11 02 11", "02 11 00 00", ""));
+    CHECK(one_is(&tso, 18, "08", "02 11 02 11 02 11", "02 11 00 00", ""));
+    give_back(tso);
+    CHECK(replayed(job.bytes, job.size, "00 00 00 00 00 05", 3, 5, 6));
+    CHECK(replayed(job.bytes, job.size, "00 00 00 00 00 04 05", 3, 6, 6));
+    job.bytes[MODEL] = PSO;
+    Lent pso = searched(job, 2, 19, 0);
+    /* The second x and y are of group 1 while the first x is there, and of group 0 once it is flushed. */
+    CHECK(one_is(&pso, 19, "02", "", "00 11 07 07", "81 00 01 11"));
+    CHECK(one_is(&pso, 19, "03", "", "00 11 07 07", "02 00 01 11 10 02 11"));
+    CHECK(one_is(&pso, 19, "04", "02 11", "00 11 07 07", "02 00 01 11 10 02 11"));
+    CHECK(one_is(&pso, 19, "05", "02 11", "00 11 07 07", "03 00 01 11 10 02 11 11 02 11"));
+    CHECK(one_is(&pso, 19, "05", "02 11", "01 11 07 07", "02 00 02 11 01 02 11"));
+    CHECK(one_is(&pso, 19, "05", "02 11", "02 11 07 07", "01 01 02 11"));
+    CHECK(one_is(&pso, 19, "05", "02 11", "01 11 02 11", "01 00 02 11"));
+    CHECK(one_is(&pso, 19, "08", "02 11 02 11 02 11", "02 11 00 00", ""));
+    give_back(pso);
+    CHECK(replayed(job.bytes, job.size, "00 00 00 00 00 05", 3, 5, 6));
+    CHECK(replayed(job.bytes, job.size, "00 00 00 00 00 04 05 04 00 00 00", 2, 0, 0));
+    job.bytes[MODEL] = SC, job.bytes[CAPACITY] = 0;
+    Lent sc = searched(job, 2, 9, 0);
+    CHECK(slot_is(&sc, 3, "03", "", "02 11 07 07", "", ""));
+    CHECK(slot_is(&sc, 8, "08", "02 11 02 11 02 11", "02 11 00 00", "", ""));
+    give_back(sc);
+}
+
+/* Thread 3 stores to all eight variables, from 7 down to 0; the goal is that it has ended. With e stores executed and f of them flushed, e + f at
+ * most 8: under TSO, where the oldest is flushed first, 25 states, 16 in six steps and 20 in seven; under PSO, where any is, 88 and in seven 54.
+ * The first state eight steps away has all stores pending, in the last 25 bytes of the slot. */
+static void full_buffers(void) {
+    static const char program[] = "03 01 08 04 08  10 20 11 21 12 22 13 23 14 24 15 25 16 26 17 27  00  00  00  08  05 00 07 37 47  05 00 06 36 46"
+                                  "  05 00 05 35 45  05 00 04 34 44  05 00 03 33 43  05 00 02 32 42  05 00 01 31 41  05 00 00 30 40";
+    static const char start[] = "10 20 11 21 12 22 13 23 14 24 15 25 16 26 17 27";
+    uint8_t expected[4][SLOT] = {{0}};
+    Job job = file(program, "00 01  01 03 00 00 08");
+    put(expected[0], "00 00 00 08"), put(expected[0] + 36, start);
+    put(expected[0] + 127, "08 07 37 47 06 36 46 05 35 45 04 34 44 03 33 43 02 32 42 01 31 41 00 30 40");
+    put(expected[1], "00 00 00 05"), put(expected[1] + 36, "10 20 11 21 12 22 13 23 14 24 35 45 36 46 37 47");
+    put(expected[1] + 127, "02 04 34 44 03 33 43");
+    put(expected[2], "00 00 00 08"), put(expected[2] + 36, start);
+    put(expected[2] + 127, "08 00 30 40 01 31 41 02 32 42 03 33 43 04 34 44 05 35 45 06 36 46 07 37 47");
+    put(expected[3], "00 00 00 07"), put(expected[3] + 36, "10 20 31 41 12 22 13 23 14 24 15 25 16 26 17 27");
+    put(expected[3] + 127, "06 02 32 42 03 33 43 04 34 44 05 35 45 06 36 46 07 37 47");
+    Lent m = searched(job, 1, 8, 25);
+    CHECK(memcmp(m.schedule + guard, "\x03\x03\x03\x03\x03\x03\x03\x03", 8) == 0);
+    CHECK(memcmp(m.table + guard + 20 * SLOT, expected[0], SLOT) == 0 && m.links[guard + 20] == 64 * 16 + 3);
+    CHECK(memcmp(m.table + guard + 23 * SLOT, expected[1], SLOT) == 0);
+    give_back(m);
+    job.bytes[MODEL] = PSO;
+    m = searched(job, 1, 8, 88);
+    CHECK(memcmp(m.table + guard + 54 * SLOT, expected[2], SLOT) == 0);
+    /* The store to variable 1 is the last of seven, and flushed by 1D. */
+    CHECK(memcmp(m.table + guard + 55 * SLOT, expected[3], SLOT) == 0 && m.links[guard + 55] % 64 == 0x1D);
+    give_back(m);
+}
+
+/* SC, four threads that set their four registers: 5 places each, 625 states, and the last one has every register's two bytes. */
+static void all_registers(void) {
+    enum { STATES = 625 };
+    uint8_t expected[SLOT] = {4, 4, 4, 4};
+    uint64_t answer[4];
+    Job job = file("03 00 00 04 01  00 00", "");
+    for (uint8_t t = 0; t < 4; t++) {
+        job.bytes[job.size++] = 4;
+        for (uint8_t r = 0; r < 4; r++, job.size += ITEM) {
+            const uint8_t instruction[ITEM] = {1, r, 0, (uint8_t)(0xA0 + 4 * t + r), (uint8_t)(0x50 + 4 * t + r)};
+            memcpy(job.bytes + job.size, instruction, ITEM);
+            memcpy(expected + 4 + 8 * t + 2 * r, instruction + 3, 2);
+        }
+    }
+    job.size += put(job.bytes + job.size, "00 04  01 00 00 00 04  01 01 00 00 04  01 02 00 00 04  01 03 00 00 04");
+    put_length(&job);
+    Lent m = lend(STATES * SLOT, STATES, STATES);
+    search(job.bytes, job.size, &m, answer);
+    CHECK(answer_is(answer, 1, 16, STATES, 0));
+    CHECK(memcmp(m.schedule + guard, "\0\0\0\0\1\1\1\1\2\2\2\2\3\3\3\3", 16) == 0);
+    CHECK(memcmp(m.table + guard + (STATES - 1) * SLOT, expected, SLOT) == 0);
+    /* Before it four states lack one step each, and the first of them lacks thread 3's. */
+    CHECK(m.links[guard + STATES - 1] == 64 * (STATES - 5) + 3);
+    CHECK(rest_kept(&m, STATES * SLOT, STATES, 16));
+    give_back(m);
+    m = lend(STATES * SLOT - 1, STATES, STATES);
+    search(job.bytes, job.size, &m, answer);
+    CHECK(answer_is(answer, 3, STATES - 1, 0, 0));
+    CHECK(rest_kept(&m, (STATES - 1) * SLOT, STATES - 1, 0));
+    give_back(m);
 }
 
 int main(void) {
     const size_t guards[] = {64, 0};
     for (size_t k = 0; k < 2; k++) {
         guard = guards[k];
-        p1_whole();
-        p1_by_slots();
-        p2_and_p3();
-        replays();
-        for (barrier = 6; barrier <= 7; barrier++) {
-            reasons();
-            pairs_of_reasons();
+        for (size_t f = 0; f < FORM_COUNT; f++) {
+            form = FORMS[f];
+            p1_whole();
+            p1_by_slots();
+            p2_and_p3();
+            replays();
+            for (barrier = 6; barrier <= 7; barrier++) {
+                reasons();
+                pairs_of_reasons();
+            }
+            fence_checks();
+            dead_code();
+            blank_goals();
+            empty_buffers();
+            if (form.version == 1) continue;
+            store_store_fence();
+            group_reasons();
+            group_slots();
+            compare_exchange();
+            later_fences();
         }
-        fence_checks();
-        dead_code();
         refusals();
-        blank_goals();
-        long_threads();
+        limits();
+        for (uint8_t version = 1; version <= 3; version++) long_threads(version);
         versions();
-        both_versions();
-        store_store_fence();
-        group_reasons();
-        group_slots();
-        compare_exchange();
-        version_two_fences();
-        empty_buffers();
+        all_versions();
+        wide_file();
+        operands();
+        wide_buffering();
+        wide_clauses();
+        wide_adding();
+        narrow_adding();
+        wide_jumps();
+        wide_comparing();
+        wide_stores();
+        full_buffers();
+        all_registers();
     }
     printf("%d checks hold\n", checks);
     return 0;

@@ -2,6 +2,7 @@
 
 use compare::pieces::{from_the_front, Told, PIECE, PIECES};
 use compare::ring::{ring, BENCH_SLOTS, MODELS, SLOTS};
+use compare::slot::LAYOUT;
 use second::decode;
 use second::machine::SLOT_BYTES;
 use std::fs;
@@ -9,9 +10,6 @@ use std::path::Path;
 use std::process::ExitCode;
 
 const USAGE: &str = "use: pieces (without arguments; it takes some seconds)";
-
-/// 01, "Slot layout": memory begins here.
-const MEMORY_AT: usize = 20;
 
 const CLASSICS: [&str; 6] = [
     "dekker",
@@ -111,7 +109,7 @@ fn orders() -> [(&'static str, Vec<usize>); 4] {
 /// The first piece, that in which memory begins, and then the others from the front.
 fn memory_second() -> Vec<usize> {
     let mut order = from_the_front();
-    let memory = order.remove(MEMORY_AT / PIECE);
+    let memory = order.remove(LAYOUT.memory_at() / PIECE);
     order.insert(1, memory);
     order
 }

@@ -11,7 +11,7 @@ ghost use Rattle.bench.specs.Hex.{capital, two-digits};
 // One byte more than the longest job has: whatever is longer is refused, so the rest need not be read.
 const INPUT_ROOM: usize = rules::LONGEST_FILE + 1;
 
-const SLOTS: usize = 640;
+const SLOTS: usize = 400;
 
 const TABLE_SIZE: usize = SLOTS * rules::SLOT_SIZE;
 

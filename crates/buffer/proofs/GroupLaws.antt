@@ -1,4 +1,4 @@
--- Groups are counted anew pair by pair, and a mark stands only behind a store.
+-- Groups are counted anew entry by entry, and a mark stands only behind a store.
 use mathlib.Core.Path.{_≡_, refl, sym, ap, ap₂, subst, _∙_}
 use mathlib.Core.Bool.{Bool, true, false, not, _&&_}
 use mathlib.Core.List.{List, [], _∷_, _++_}
@@ -7,25 +7,27 @@ use native.Mathlib.Numerals.{add-one}
 use native.Mathlib.Omega.{arith}
 use lib.Dec.{leb}
 use lib.ListN.{length, getD, set, take, drop, replicate, length-set}
-use Rattle.rules.specs.Limits.{most-pending, group-unit, mark-unit, pairs-size}
+use Rattle.rules.specs.Limits.{most-pending, group-unit, mark-unit, entry-size, entries-size}
 use Rattle.rules.specs.State.{Pending, Buffer, empty-buffer}
 use Rattle.rules.specs.Slot.{mark-byte}
 use Rattle.rules.specs.Step.{lowered, counted, marked-buffer, is-empty}
+use Rattle.words.specs.Words.{word}
 use Rattle.rules.specs.BufferLaws.{lower, lowered-length, lowered-none}
-use Rattle.buffer.specs.Held.{pair, pairs, number, held-pending, held-buffer, BufferOk}
-use Rattle.buffer.specs.HeldLaws.{count-both, held-pairs, pairs-held, rest-unused, held-number, held-at, held-few, holds}
-use Rattle.buffer.specs.PairLaws.{pairs-number, pairs-at, pairs-set}
-use Rattle.buffer.specs.Places.{no-pair, pair-at, set-pair, padded}
+use Rattle.buffer.specs.Held.{entry, entries, Lows, number, held-pending, held-buffer, BufferOk}
+use Rattle.buffer.specs.HeldLaws.{count-both, held-entries, entries-held, rest-unused, held-number, held-at, held-few, holds}
+use Rattle.buffer.specs.EntryLaws.{entries-number, entries-at, entries-set, set-lows, low-at}
+use Rattle.buffer.specs.Places.{no-entry, entry-at, set-entry, padded}
 use Rattle.buffer.specs.Posts.{Holds, counted-buffer}
 use Rattle.buffer.specs.declared.Buf.{Buf}
 
--- the pairs below index i have their groups lowered by g, the others are as they were
+-- the entries below index i have their groups lowered by g, the others are as they were
 pub record Lowering (all : List Pending) (g : ℕ) (s : List ℕ) (i : ℕ) : Type 0 where
-  pub size : length s ≡ pairs-size
-  pub is : pairs s ≡ lowered g (take i all) ++ drop i all
+  pub size : length s ≡ entries-size
+  pub lows : Lows s
+  pub is : entries s ≡ lowered g (take i all) ++ drop i all
 
 lower-one : (g : ℕ) (l : List Pending) (i : ℕ) → i < length l
-    → set (lowered g (take i l) ++ drop i l) i (lower g (getD l i no-pair)) ≡ lowered g (take (suc i) l) ++ drop (suc i) l
+    → set (lowered g (take i l) ++ drop i l) i (lower g (getD l i no-entry)) ≡ lowered g (take (suc i) l) ++ drop (suc i) l
 unfolding lowered
 lower-one g [] i h = absurd (omega arith)
 lower-one g (p ∷ l) zero h = refl
@@ -41,7 +43,7 @@ nothing-counted b e = go (b .pending) (b .marked) e
     go [] false h = refl
     go (p ∷ l) m h = absurd (omega arith)
 
-counted-first : (l : List Pending) → 1 ≤ length l → counted l ≡ lowered (getD l 0 no-pair .group) l
+counted-first : (l : List Pending) → 1 ≤ length l → counted l ≡ lowered (getD l 0 no-entry .group) l
 unfolding counted
 counted-first [] h = absurd (omega arith)
 counted-first (p ∷ l) h = refl
@@ -88,41 +90,46 @@ module _ (b : Buf) (ok : BufferOk b) where
     counted-already e =
         record { ok = ok; held = as-counted (held-pending b) (sym (counted-by ∙ ap (λ n. lowered n (held-pending b)) e ∙ lowered-none (held-pending b))) }
 
-    pub lowering-starts : Lowering (pairs (b .slots)) g (b .slots) 0
+    pub lowering-starts : Lowering (entries (b .slots)) g (b .slots) 0
     unfolding lowered
-    lowering-starts = record { size = ok .size; is = refl }
+    lowering-starts = record { size = ok .size; lows = ok .lows; is = refl }
 
     pub lowering-goes-on : (s : List ℕ) (i byte : ℕ) → i < most-pending
-        → (byte / group-unit ≡ getD (b .slots) (2 * i) 0 / group-unit - g) × (byte % group-unit ≡ getD (b .slots) (2 * i) 0 % group-unit)
-        → Lowering (pairs (b .slots)) g s i → Lowering (pairs (b .slots)) g (set-pair s i byte (getD (b .slots) (2 * i + 1) 0)) (i + 1)
+        → (byte / group-unit ≡ getD (b .slots) (entry-size * i) 0 / group-unit - g) × (byte % group-unit ≡ getD (b .slots) (entry-size * i) 0 % group-unit)
+        → Lowering (entries (b .slots)) g s i
+        → Lowering (entries (b .slots)) g
+        (set-entry s i byte (getD (b .slots) (entry-size * i + 1) 0) (getD (b .slots) (entry-size * i + 2) 0)) (i + 1)
     lowering-goes-on s i byte few e h =
-        let all = pairs (b .slots) in
-        let value = getD (b .slots) (2 * i + 1) 0 in
-        let below : i < length all = omega (arith, pairs-number most-pending (b .slots) (ok .size)) in
-        let lowered-pair : pair byte value ≡ lower g (pair-at (b .slots) i) = λ j. record { group = e .0 j; variable = e .1 j; value = value } in
+        let all = entries (b .slots) in
+        let high = getD (b .slots) (entry-size * i + 1) 0 in
+        let low = getD (b .slots) (entry-size * i + 2) 0 in
+        let value = word high low in
+        let below : i < length all = omega (arith, entries-number most-pending (b .slots) (ok .size)) in
+        let lowered-entry : entry byte value ≡ lower g (entry-at (b .slots) i) = λ j. record { group = e .0 j; variable = e .1 j; value = value } in
         record {
           size = simp length-set (h .size);
+          lows = set-lows most-pending s (h .size) i byte high low (low-at most-pending (b .slots) (ok .size) i (ok .lows)) (h .lows);
           is =
-              pairs-set most-pending s (h .size) i byte value
-              ∙ ap₂ (λ r p. set r i p) (h .is) (lowered-pair ∙ ap (lower g) (sym (pairs-at most-pending (b .slots) (ok .size) i)))
+              entries-set most-pending s (h .size) i byte high low
+              ∙ ap₂ (λ r p. set r i p) (h .is) (lowered-entry ∙ ap (lower g) (sym (entries-at most-pending (b .slots) (ok .size) i)))
               ∙ lower-one g all i below
               ∙ sym (ap (λ n. lowered g (take n all) ++ drop n all) (add-one i));
         }
 
-    pub lowering-ends : (s : List ℕ) (i : ℕ) → i ≡ number b → Lowering (pairs (b .slots)) g s i
+    pub lowering-ends : (s : List ℕ) (i : ℕ) → i ≡ number b → Lowering (entries (b .slots)) g s i
         → Holds (record { count = b .count; slots = s }) (counted-buffer (held-buffer b))
     lowering-ends s i e h =
         let stores = lowered g (held-pending b) in
         let same = lowered-length g (held-pending b) in
-        let left : drop (number b) (pairs (b .slots)) ≡ replicate (most-pending - length stores) no-pair =
-        rest-unused b ok ∙ ap (λ n. replicate (most-pending - n) no-pair) (sym (same ∙ held-number b ok)) in
-        let done : pairs s ≡ padded stores =
+        let left : drop (number b) (entries (b .slots)) ≡ replicate (most-pending - length stores) no-entry =
+        rest-unused b ok ∙ ap (λ n. replicate (most-pending - n) no-entry) (sym (same ∙ held-number b ok)) in
+        let done : entries s ≡ padded stores =
         h .is
-        ∙ ap (λ n. lowered g (take n (pairs (b .slots))) ++ drop n (pairs (b .slots))) e
-        ∙ ap₂ {C = List Pending} (λ u w. lowered g u ++ w) (sym (held-pairs b ok)) left in
+        ∙ ap (λ n. lowered g (take n (entries (b .slots))) ++ drop n (entries (b .slots))) e
+        ∙ ap₂ {C = List Pending} (λ u w. lowered g u ++ w) (sym (held-entries b ok)) left in
         let count : b .count ≡ mark-byte m + length stores = omega (arith, count-both (b .count) (ok .byte), same, held-number b ok) in
         subst (Holds (record { count = b .count; slots = s })) (as-counted stores (sym counted-by))
-        (holds (record { count = b .count; slots = s }) stores m count (omega (arith, same, held-few b ok)) (h .size) done)
+        (holds (record { count = b .count; slots = s }) stores m count (omega (arith, same, held-few b ok)) (h .size) (h .lows) done)
 
     -- a WFENCE after the newest
     pub marks : Holds (record { count = mark-unit + number b; slots = b .slots }) (marked-buffer (held-buffer b))
@@ -131,7 +138,7 @@ module _ (b : Buf) (ok : BufferOk b) where
         let count : mark-unit + number b ≡ mark-byte true + length (held-pending b) = omega (arith, held-number b ok) in
         subst (λ n. Holds (record { count = mark-unit + number b; slots = b .slots }) (record { pending = held-pending b; marked = n }))
         (sym (some-left (held-pending b) least))
-        (holds (record { count = mark-unit + number b; slots = b .slots }) (held-pending b) true count (held-few b ok) (ok .size) (pairs-held b ok))
+        (holds (record { count = mark-unit + number b; slots = b .slots }) (held-pending b) true count (held-few b ok) (ok .size) (ok .lows) (entries-held b ok))
 
   nothing-marked : (l : List Pending) → length l ≡ 0 → record { pending = l; marked = not (is-empty l) } ≡ empty-buffer
   unfolding is-empty

@@ -1,4 +1,4 @@
--- The rules on a buffer are what they say by index, and carrying a pair along a list moves the place where it goes in.
+-- The rules on a buffer are what they say by index, and carrying an entry along a list moves the place where it goes in.
 use mathlib.Core.Path.{_≡_, refl, sym, ap, ap₂, _∙_}
 use mathlib.Core.Bool.{Bool, true, false, not, cond, _&&_, _||_}
 use mathlib.Core.List.{List, [], _∷_, _++_, append-nil}
@@ -11,8 +11,8 @@ use lib.ListN.{length, getD, set, replicate, length-append}
 use Rattle.rules.specs.Limits.{most-pending, group-unit}
 use Rattle.rules.specs.State.{Pending}
 use Rattle.rules.specs.Step.{stands-before, in-its-place, newest-group, oldest-to, without-oldest-to, is-empty, is-pending-to, is-in-oldest-group}
-use Rattle.buffer.specs.Held.{pair}
-use Rattle.buffer.specs.Places.{no-pair, padded, first, is-to, is-next-to, is-after, with-at, without-at}
+use Rattle.buffer.specs.Held.{entry}
+use Rattle.buffer.specs.Places.{no-entry, padded, first, is-to, is-next-to, is-after, with-at, without-at}
 
 module _ {A : Type 0} where
   pub first-within : (f : A → Bool) (l : List A) → first f l ≤ length l
@@ -78,38 +78,38 @@ module _ {A : Type 0} where
       let r = with-at-equal l m i x y (omega arith) (omega arith) (cc) in
       (r .0, ap₂ {C = List A} _∷_ front (r .1))
 
--- A pair that was carried up to behind the last pending store stands where it went in, and what is carried on is unused.
+-- An entry that was carried up to behind the last pending store stands where it went in, and what is carried on is unused.
 pub put-in :
     (l s : List Pending) (i : ℕ) (q c : Pending) → i ≤ length l → length l < most-pending → length s ≡ most-pending →
     with-at (suc (length l)) c s ≡ with-at i q (padded l) → s ≡ padded (with-at i q l)
 put-in l s i q c h few size e =
-    let rest = replicate (most-pending - suc (length l)) no-pair in
+    let rest = replicate (most-pending - suc (length l)) no-entry in
     let number = with-at-number l i q in
     let count : most-pending - length l ≡ suc (most-pending - suc (length l)) = omega arith in
-    let right : with-at i q (padded l) ≡ with-at (suc (length l)) no-pair (with-at i q l ++ rest) =
-    ap (λ n. with-at i q (l ++ replicate n no-pair)) count
-    ∙ with-at-append l (no-pair ∷ rest) i q h
-    ∙ sym (with-at-end (with-at i q l) rest no-pair)
-    ∙ ap (λ n. with-at n no-pair (with-at i q l ++ rest)) number in
-    let same = with-at-equal s (with-at i q l ++ rest) (suc (length l)) c no-pair (omega arith)
+    let right : with-at i q (padded l) ≡ with-at (suc (length l)) no-entry (with-at i q l ++ rest) =
+    ap (λ n. with-at i q (l ++ replicate n no-entry)) count
+    ∙ with-at-append l (no-entry ∷ rest) i q h
+    ∙ sym (with-at-end (with-at i q l) rest no-entry)
+    ∙ ap (λ n. with-at n no-entry (with-at i q l ++ rest)) number in
+    let same = with-at-equal s (with-at i q l ++ rest) (suc (length l)) c no-entry (omega arith)
     (omega (arith, number, length-append (with-at i q l) rest)) (e ∙ right) in
-    same .1 ∙ ap (λ n. with-at i q l ++ replicate (most-pending - n) no-pair) (sym number)
+    same .1 ∙ ap (λ n. with-at i q l ++ replicate (most-pending - n) no-entry) (sym number)
 
--- An unused pair that was carried down to index i is in, and what stood at i is out.
+-- An unused entry that was carried down to index i is in, and what stood at i is out.
 pub take-out :
     (l s : List Pending) (i : ℕ) (c : Pending) → i < length l → length l ≤ most-pending → length s ≡ most-pending →
-    with-at i c s ≡ with-at (length l) no-pair (padded l) → (c ≡ getD l i no-pair) × (s ≡ padded (without-at i l))
+    with-at i c s ≡ with-at (length l) no-entry (padded l) → (c ≡ getD l i no-entry) × (s ≡ padded (without-at i l))
 take-out l s i c h few size e =
-    let unused = replicate (most-pending - length l) no-pair in
+    let unused = replicate (most-pending - length l) no-entry in
     let number = without-at-number l i h in
     let count : suc (most-pending - length l) ≡ most-pending - length (without-at i l) = omega (arith, number) in
-    let right : with-at (length l) no-pair (padded l) ≡ with-at i (getD l i no-pair) (without-at i l ++ no-pair ∷ unused) =
-    with-at-end l unused no-pair
-    ∙ ap (λ r. r ++ no-pair ∷ unused) (sym (with-without l i no-pair h))
-    ∙ sym (with-at-append (without-at i l) (no-pair ∷ unused) i (getD l i no-pair) (omega (arith, number))) in
-    let same = with-at-equal s (without-at i l ++ no-pair ∷ unused) i c (getD l i no-pair) (omega arith)
-    (omega (arith, number, length-append (without-at i l) (no-pair ∷ unused))) (e ∙ right) in
-    (same .0, same .1 ∙ ap (λ n. without-at i l ++ replicate n no-pair) count)
+    let right : with-at (length l) no-entry (padded l) ≡ with-at i (getD l i no-entry) (without-at i l ++ no-entry ∷ unused) =
+    with-at-end l unused no-entry
+    ∙ ap (λ r. r ++ no-entry ∷ unused) (sym (with-without l i no-entry h))
+    ∙ sym (with-at-append (without-at i l) (no-entry ∷ unused) i (getD l i no-entry) (omega (arith, number))) in
+    let same = with-at-equal s (without-at i l ++ no-entry ∷ unused) i c (getD l i no-entry) (omega arith)
+    (omega (arith, number, length-append (without-at i l) (no-entry ∷ unused))) (e ∙ right) in
+    (same .0, same .1 ∙ ap (λ n. without-at i l ++ replicate n no-entry) count)
 
 -- PSO keeps a store before the first that stands behind its place.
 in-its-place-at : (q : Pending) (b : List Pending) → in-its-place q b ≡ with-at (first (is-after q) b) q b
@@ -127,7 +127,7 @@ pub sorted-place : (q : Pending) (b : List Pending) (n : ℕ) → n ≡ first (i
 sorted-place q b n e = ap (λ i. with-at i q b) e ∙ sym (in-its-place-at q b)
 
 -- Group and then variable is the order of the variable bytes.
-pub before-by-byte : (c d k l : ℕ) → stands-before (pair c k) (pair d l) ≡ leb c d
+pub before-by-byte : (c d k l : ℕ) → stands-before (entry c k) (entry d l) ≡ leb c d
 unfolding stands-before
 before-by-byte c d k l = which (decLt (c / group-unit) (d / group-unit)) (decLt (d / group-unit) (c / group-unit)) (decLt d c)
   where
@@ -151,13 +151,13 @@ before-by-byte c d k l = which (decLt (c / group-unit) (d / group-unit)) (decLt 
         rw (le-ltb _ _ from, eq-eqb (c / group-unit) (d / group-unit) same, le-leb (c % group-unit) (d % group-unit) h, le-leb c d up)
 
 -- The newest group is that of the last store.
-pub newest-last : (g : ℕ) (b : List Pending) → 1 ≤ length b → newest-group g b ≡ getD b (length b - 1) no-pair .group
+pub newest-last : (g : ℕ) (b : List Pending) → 1 ≤ length b → newest-group g b ≡ getD b (length b - 1) no-entry .group
 unfolding newest-group
 newest-last g [] h = absurd (omega arith)
 newest-last g (p ∷ []) h = refl
 newest-last g (p ∷ q ∷ b) h =
     let up : suc (suc (length b)) - 1 ≡ suc (suc (length b) - 1) = omega arith in
-    newest-last (p .group) (q ∷ b) (omega arith) ∙ sym (ap (λ n. getD (p ∷ q ∷ b) n no-pair .group) up)
+    newest-last (p .group) (q ∷ b) (omega arith) ∙ sym (ap (λ n. getD (p ∷ q ∷ b) n no-entry .group) up)
 
 -- TSO keeps a store behind the last.
 pub last-place : (q : Pending) (b : List Pending) (n : ℕ) → length b ≡ n → with-at n q b ≡ b ++ (q ∷ [])
@@ -197,14 +197,14 @@ pub next-by-index : (v : ℕ) (b : List Pending) (i n : ℕ) → i ≡ first (is
 next-by-index v b i n e number = any-by-index (is-next-to v) b i n e number ∙ any-next-to v b
 
 -- The oldest store to v is the first to v.
-pub oldest-at : (v : ℕ) (b : List Pending) → oldest-to v b ≡ getD b (first (is-to v) b) no-pair .value
+pub oldest-at : (v : ℕ) (b : List Pending) → oldest-to v b ≡ getD b (first (is-to v) b) no-entry .value
 unfolding oldest-to first
 oldest-at v [] = refl
 oldest-at v (p ∷ b) = either (eqb (p .variable) v) (oldest-at v b)
   where
     either :
-        (t : Bool) → oldest-to v b ≡ getD b (first (is-to v) b) no-pair .value →
-        cond t (p .value) (oldest-to v b) ≡ getD (p ∷ b) (cond t 0 (suc (first (is-to v) b))) no-pair .value
+        (t : Bool) → oldest-to v b ≡ getD b (first (is-to v) b) no-entry .value →
+        cond t (p .value) (oldest-to v b) ≡ getD (p ∷ b) (cond t 0 (suc (first (is-to v) b))) no-entry .value
     either true e = refl
     either false e = e
 

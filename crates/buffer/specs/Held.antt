@@ -4,27 +4,37 @@ use mathlib.Core.List.{List, [], _∷_, _++_}
 use Prim.Native.Nat.{ℕ, _+_, _*_, _-_, _/_, _%_, _≤_, _<_}
 use lib.Dec.{leb}
 use lib.ListN.{length, getD, take, replicate}
-use Rattle.rules.specs.Limits.{most-pending, group-unit, mark-unit, pairs-size}
+use Rattle.rules.specs.Limits.{most-pending, group-unit, mark-unit, entry-size, entries-size}
 use Rattle.rules.specs.State.{Pending, Buffer}
-use Rattle.rules.specs.Slot.{pair-bytes, mark-byte}
+use Rattle.rules.specs.Slot.{entry-bytes, mark-byte}
+use Rattle.rules.specs.SlotLaws.{Byte}
+use Rattle.words.specs.Words.{word}
 use Rattle.buffer.specs.declared.Buf.{Buf}
 
 -- a variable byte and a value: the byte is 16 times the group, and the variable
-abbrev pub pair : (byte value : ℕ) → Pending
-pair byte value = record { group = byte / group-unit; variable = byte % group-unit; value = value }
+abbrev pub entry : (byte value : ℕ) → Pending
+entry byte value = record { group = byte / group-unit; variable = byte % group-unit; value = value }
 
--- pairs of bytes, one after the other
-unfoldable pub pairs : List ℕ → List Pending
-pairs [] = []
-pairs (v ∷ []) = []
-pairs (v ∷ k ∷ l) = pair v k ∷ pairs l
+-- entries of three bytes, one after the other
+unfoldable pub entries : List ℕ → List Pending
+entries [] = []
+entries (v ∷ []) = []
+entries (v ∷ h ∷ []) = []
+entries (v ∷ h ∷ k ∷ l) = entry v (word h k) ∷ entries l
+
+-- the lower byte of each value is a byte: then the two are found again from the value
+abbrev pub Lows : List ℕ → Type 0
+Lows [] = Unit {0}
+Lows (v ∷ []) = Unit {0}
+Lows (v ∷ h ∷ []) = Unit {0}
+Lows (v ∷ h ∷ k ∷ l) = Byte k × Lows l
 
 -- how many stores are pending: the count byte without the mark
 abbrev pub number : Buf → ℕ
 number b = b .count % mark-unit
 
 unfoldable pub held-pending : Buf → List Pending
-held-pending b = pairs (take (2 * number b) (b .slots))
+held-pending b = entries (take (entry-size * number b) (b .slots))
 
 abbrev pub held-buffer : Buf → Buffer
 held-buffer b = record { pending = held-pending b; marked = leb mark-unit (b .count) }
@@ -33,12 +43,13 @@ unfoldable pub written-buffer : Buffer → Buf
 written-buffer b =
     record {
       count = mark-byte (b .marked) + length (b .pending);
-      slots = pair-bytes (b .pending) ++ replicate (pairs-size - length (pair-bytes (b .pending))) 0;
+      slots = entry-bytes (b .pending) ++ replicate (entries-size - length (entry-bytes (b .pending))) 0;
     }
 
--- no more pairs than there is room for, and "unused pairs 0"
+-- no more entries than there is room for, unused ones 0
 pub record BufferOk (b : Buf) : Type 0 where
   pub few : number b ≤ most-pending
   pub byte : b .count < 2 * mark-unit
-  pub size : length (b .slots) ≡ pairs-size
-  pub unused : (i : ℕ) → 2 * number b ≤ i → getD (b .slots) i 0 ≡ 0
+  pub size : length (b .slots) ≡ entries-size
+  pub unused : (i : ℕ) → entry-size * number b ≤ i → getD (b .slots) i 0 ≡ 0
+  pub lows : Lows (b .slots)

@@ -1,5 +1,5 @@
 pub mod Held
 pub mod HeldLaws
-pub mod PairLaws
+pub mod EntryLaws
 pub mod Places
 pub mod Posts

@@ -4,25 +4,26 @@ use mathlib.Core.List.{List, [], _∷_, _++_}
 use Prim.Native.Nat.{ℕ, suc, _+_, _*_, _-_}
 use lib.Dec.{eqb}
 use lib.ListN.{length, getD, set, take, drop, replicate}
-use Rattle.rules.specs.Limits.{most-pending}
+use Rattle.rules.specs.Limits.{most-pending, entry-size}
 use Rattle.rules.specs.State.{Pending}
 use Rattle.rules.specs.Step.{stands-before}
-use Rattle.buffer.specs.Held.{pair}
+use Rattle.words.specs.Words.{word}
+use Rattle.buffer.specs.Held.{entry}
 
--- an unused pair
-abbrev pub no-pair : Pending
-no-pair = record { group = 0; variable = 0; value = 0 }
+-- an unused entry
+abbrev pub no-entry : Pending
+no-entry = record { group = 0; variable = 0; value = 0 }
 
--- the pair at an index of the bytes, and the bytes with a pair written there
-abbrev pub pair-at : List ℕ → ℕ → Pending
-pair-at s i = pair (getD s (2 * i) 0) (getD s (2 * i + 1) 0)
+-- the entry at an index of the bytes, and the bytes with an entry written there
+abbrev pub entry-at : List ℕ → ℕ → Pending
+entry-at s i = entry (getD s (entry-size * i) 0) (word (getD s (entry-size * i + 1) 0) (getD s (entry-size * i + 2) 0))
 
-abbrev pub set-pair : List ℕ → (i byte value : ℕ) → List ℕ
-set-pair s i byte value = set (set s (2 * i) byte) (2 * i + 1) value
+abbrev pub set-entry : List ℕ → (i byte high low : ℕ) → List ℕ
+set-entry s i byte high low = set (set (set s (entry-size * i) byte) (entry-size * i + 1) high) (entry-size * i + 2) low
 
--- pending stores and unused pairs, together as many as there is room for
+-- pending stores and unused entries, together as many as there is room for
 abbrev pub padded : List Pending → List Pending
-padded l = l ++ replicate (most-pending - length l) no-pair
+padded l = l ++ replicate (most-pending - length l) no-entry
 
 -- the index of the first that passes the test, or the length
 unfoldable pub first : {A : Type 0} → (A → Bool) → List A → ℕ

@@ -1,6 +1,7 @@
 // A flush: whether it may be taken, and the store that it takes from a buffer.
 use crate::Buf;
 use crate::Taken;
+use rules::ENTRY_SIZE;
 use rules::GROUP_UNIT;
 use rules::MARK_UNIT;
 use rules::May;
@@ -31,7 +32,7 @@ fn first_to(b: Buf, v: u8) -> usize
     let n = (b.count % MARK_UNIT) as usize;
     let mut i = 0;
     while i < n {
-        if b.slots[2 * i] % GROUP_UNIT == v {
+        if b.slots[ENTRY_SIZE * i] % GROUP_UNIT == v {
             return i;
         }
         i += 1;
@@ -56,7 +57,7 @@ fn first_next_to(b: Buf, v: u8) -> usize
     let n = (b.count % MARK_UNIT) as usize;
     let mut i = 0;
     while i < n {
-        let byte = b.slots[2 * i];
+        let byte = b.slots[ENTRY_SIZE * i];
         if (byte / GROUP_UNIT == 0) & (byte % GROUP_UNIT == v) {
             return i;
         }
@@ -119,7 +120,7 @@ pub fn may_flush(m: Model, b: Buf, v: u8) -> May
     }
 }
 
-// The oldest store to v, if there is one, goes out: an unused pair is carried down to it from behind the last.
+// The oldest store to v, if there is one, goes out: an unused entry is carried down to it from behind the last.
 fn take_out(b: Buf, v: u8) -> Taken
     requires { ⌜ BufferOk b ⌝ }
     ensures { λ r. ⌜ TakesOut r v (held-buffer b) ⌝ }
@@ -131,21 +132,27 @@ fn take_out(b: Buf, v: u8) -> Taken
     }
     let mut s = b.slots;
     let mut variable = 0;
-    let mut value = 0;
+    let mut high = 0;
+    let mut low = 0;
     let mut i = n;
     while at < i {
         i -= 1;
-        let at_variable = 2 * i;
-        let at_value = at_variable + 1;
+        let at_variable = ENTRY_SIZE * i;
+        let at_high = at_variable + 1;
+        let at_low = at_variable + 2;
         let next_variable = s[at_variable];
-        let next_value = s[at_value];
+        let next_high = s[at_high];
+        let next_low = s[at_low];
         s[at_variable] = variable;
-        s[at_value] = value;
+        s[at_high] = high;
+        s[at_low] = low;
         variable = next_variable;
-        value = next_value;
+        high = next_high;
+        low = next_low;
     }
     let count = b.count - 1;
     let rest = Buf { count, slots: s };
+    let value = words::word(high, low);
     Taken { value, rest }
 }
 
@@ -176,12 +183,15 @@ fn counted(b: Buf) -> Buf
     let mut s = b.slots;
     let mut i = 0;
     while i < n {
-        let at_variable = 2 * i;
-        let at_value = at_variable + 1;
+        let at_variable = ENTRY_SIZE * i;
+        let at_high = at_variable + 1;
+        let at_low = at_variable + 2;
         let variable = lower(b.slots[at_variable], oldest);
-        let value = b.slots[at_value];
+        let high = b.slots[at_high];
+        let low = b.slots[at_low];
         s[at_variable] = variable;
-        s[at_value] = value;
+        s[at_high] = high;
+        s[at_low] = low;
         i += 1;
     }
     let count = b.count;

@@ -1,5 +1,6 @@
 // A store joins a buffer.
 use crate::Buf;
+use rules::ENTRY_SIZE;
 use rules::GROUP_UNIT;
 use rules::MARK_UNIT;
 ghost use mathlib.Core.Path.{_≡_};
@@ -7,29 +8,34 @@ ghost use mathlib.Core.List.{[], _∷_, _++_};
 ghost use Prim.Native.Nat.{_/_, _<_};
 ghost use Rattle.rules.specs.Limits.{group-unit};
 ghost use Rattle.rules.specs.Step as rules;
-ghost use Rattle.buffer.specs.Held.{pair, held-pending, held-buffer, BufferOk};
+ghost use Rattle.buffer.specs.Held.{entry, held-pending, held-buffer, BufferOk};
 ghost use Rattle.buffer.specs.Places.{first, is-after, with-at};
 ghost use Rattle.buffer.specs.Posts.{HasRoom, RoomAt, GroupHasRoom, Joined};
 
-// A store goes in at an index: each later pair is carried one place up, the first unused pair the last. The mark, if there is one, ends.
-fn put_in(b: Buf, at: usize, byte: u8, k: u8) -> Buf
+// A store goes in at an index: each later entry is carried one place up, the first unused entry the last. The mark, if there is one, ends.
+fn put_in(b: Buf, at: usize, byte: u8, k: u16) -> Buf
     requires { ⌜ RoomAt b at ⌝ }
-    ensures { λ r. ⌜ Joined r (with-at at (pair byte k) (held-pending b)) ⌝ }
+    ensures { λ r. ⌜ Joined r (with-at at (entry byte k) (held-pending b)) ⌝ }
 {
     let n = (b.count % MARK_UNIT) as usize;
     let mut s = b.slots;
     let mut variable = byte;
-    let mut value = k;
+    let mut high = words::high(k);
+    let mut low = words::low(k);
     let mut i = at;
     while i <= n {
-        let at_variable = 2 * i;
-        let at_value = at_variable + 1;
+        let at_variable = ENTRY_SIZE * i;
+        let at_high = at_variable + 1;
+        let at_low = at_variable + 2;
         let next_variable = s[at_variable];
-        let next_value = s[at_value];
+        let next_high = s[at_high];
+        let next_low = s[at_low];
         s[at_variable] = variable;
-        s[at_value] = value;
+        s[at_high] = high;
+        s[at_low] = low;
         variable = next_variable;
-        value = next_value;
+        high = next_high;
+        low = next_low;
         i += 1;
     }
     let count = b.count % MARK_UNIT + 1;
@@ -37,7 +43,7 @@ fn put_in(b: Buf, at: usize, byte: u8, k: u8) -> Buf
 }
 
 // TSO: a store joins the end; there is one group.
-pub fn with_last(b: Buf, v: u8, k: u8) -> Buf
+pub fn with_last(b: Buf, v: u8, k: u16) -> Buf
     requires { ⌜ HasRoom b ⌝ }
     requires { ⌜ v < group-unit ⌝ }
     ensures { λ r. ⌜ Joined r (held-pending b ++ (record { group = 0; variable = v; value = k } ∷ [])) ⌝ }
@@ -47,14 +53,14 @@ pub fn with_last(b: Buf, v: u8, k: u8) -> Buf
 }
 
 // The index of the first pending store that stands behind where this one goes in, or how many there are.
-fn first_after(b: Buf, byte: u8, k: u8) -> usize
+fn first_after(b: Buf, byte: u8, k: u16) -> usize
     requires { ⌜ BufferOk b ⌝ }
-    ensures { λ r. ⌜ r ≡ first (is-after (pair byte k)) (held-pending b) ⌝ }
+    ensures { λ r. ⌜ r ≡ first (is-after (entry byte k)) (held-pending b) ⌝ }
 {
     let n = (b.count % MARK_UNIT) as usize;
     let mut i = 0;
     while i < n {
-        if byte < b.slots[2 * i] {
+        if byte < b.slots[ENTRY_SIZE * i] {
             return i;
         }
         i += 1;
@@ -78,7 +84,7 @@ fn newest_group(b: Buf) -> u8
     if n == 0 {
         return 0;
     }
-    let last = 2 * (n - 1);
+    let last = ENTRY_SIZE * (n - 1);
     group_of(b.slots[last])
 }
 
@@ -95,7 +101,7 @@ fn joined_group(b: Buf) -> u8
 }
 
 // PSO: stores are kept by group and then by variable number, oldest first within a variable.
-pub fn with_sorted(b: Buf, v: u8, k: u8) -> Buf
+pub fn with_sorted(b: Buf, v: u8, k: u16) -> Buf
     requires { ⌜ GroupHasRoom b v ⌝ }
     ensures { λ r. ⌜
         Joined r (rules.in-its-place (record { group = rules.joined-group (held-buffer b); variable = v; value = k }) (held-pending b))

@@ -1,7 +1,8 @@
 // A thread's store buffer: pending stores that go in by value and come back.
+use rules::ENTRIES_SIZE;
+use rules::ENTRY_SIZE;
 use rules::GROUP_UNIT;
 use rules::MARK_UNIT;
-use rules::PAIRS_SIZE;
 ghost use mathlib.Core.Path.{_≡_};
 ghost use lib.ListN.{length};
 ghost use Rattle.rules.specs.State.{empty-buffer};
@@ -12,16 +13,16 @@ ghost use Rattle.buffer.specs.Posts.{Holds};
 pub mod flush; // a store leaves, if it may
 pub mod join; // a store joins
 
-// The count byte: how many stores are pending, and 128 more while a WFENCE stands after the newest. Then a pair for each store: a byte of
-// 16 times its group plus its variable, and its value; unused pairs are 0.
+// The count byte: how many stores are pending, and 128 more while a WFENCE stands after the newest. Then an entry of three bytes for each
+// store: 16 times its group plus its variable, and its value, the higher byte first; unused entries are 0.
 pub struct Buf {
     pub count: u8,
-    pub slots: [u8; PAIRS_SIZE],
+    pub slots: [u8; ENTRIES_SIZE],
 }
 
 // What a flush takes: the value of a store, and the buffer without it.
 pub struct Taken {
-    pub value: u8,
+    pub value: u16,
     pub rest: Buf,
 }
 
@@ -30,7 +31,7 @@ pub fn empty() -> Buf
 {
     Buf {
         count: 0,
-        slots: [0; PAIRS_SIZE],
+        slots: [0; ENTRIES_SIZE],
     }
 }
 
@@ -64,7 +65,7 @@ pub fn marked(b: Buf) -> Buf
 }
 
 // What a load of v sees: the newest pending store to v, in whichever group, else memory.
-pub fn newest(b: Buf, v: u8, memory: u8) -> u8
+pub fn newest(b: Buf, v: u8, memory: u16) -> u16
     requires { ⌜ BufferOk b ⌝ }
     ensures { λ r. ⌜ r ≡ rules.newest v memory (held-pending b) ⌝ }
 {
@@ -72,8 +73,9 @@ pub fn newest(b: Buf, v: u8, memory: u8) -> u8
     let mut seen = memory;
     let mut i = 0;
     while i < n {
-        if b.slots[2 * i] % GROUP_UNIT == v {
-            seen = b.slots[2 * i + 1];
+        let at = ENTRY_SIZE * i;
+        if b.slots[at] % GROUP_UNIT == v {
+            seen = words::word(b.slots[at + 1], b.slots[at + 2]);
         }
         i += 1;
     }

@@ -10,10 +10,11 @@ use Rattle.reach.specs.ListLaws.{all-at, at-in, below-at, at-default}
 use Rattle.rules.specs.Limits.{most-threads, most-variables}
 use Rattle.rules.specs.State as states
 use Rattle.rules.specs.State.{Buffer}
-use Rattle.rules.specs.Job.{Job}
+use Rattle.rules.specs.Job.{Job, width}
 use Rattle.rules.specs.Step.{is-empty}
 use Rattle.rules.specs.Goal.{every, nothing-pending, clause-holds, goal}
 use Rattle.rules.specs.Sound.{ClauseIn, JobIn}
+use Rattle.rules.specs.declared.Width.{Width}
 use Rattle.rules.specs.declared.Clause.{Clause}
 use Rattle.rules.specs.declared.Clause.the-variants.{PlaceIs, RegisterIs, MemoryIs}
 use Rattle.rules.specs.declared.Instr.{Instr}
@@ -42,11 +43,11 @@ empty-as p h k = ap nothing-pending (sym (p .held)) ∙ sym h ∙ k
 
 -- a clause of a job in range speaks of parts that a state has
 clause-parts :
-    (vars : ℕ) (threads : List (List Instr)) → vars ≤ most-variables → length threads ≤ most-threads →
-    (c : Clause) → ClauseIn vars threads c → ClauseOk c
-clause-parts vars threads few small (PlaceIs t p) h = omega (arith, h .0)
-clause-parts vars threads few small (RegisterIs t r k) h = (omega (arith, h .0), h .1)
-clause-parts vars threads few small (MemoryIs v k) h = omega (arith, h .0)
+    (w : Width) (vars : ℕ) (threads : List (List Instr)) → vars ≤ most-variables → length threads ≤ most-threads →
+    (c : Clause) → ClauseIn w vars threads c → ClauseOk c
+clause-parts w vars threads few small (PlaceIs t p) h = omega (arith, h .0)
+clause-parts w vars threads few small (RegisterIs t r k) h = (omega (arith, h .0), h .1)
+clause-parts w vars threads few small (MemoryIs v k) h = omega (arith, h .0)
 
 -- The clause at place i was read.
 module _ (j : Job) (i : ℕ) (r : ClauseRead) (read : goal-clause-of r ≡ getElem? (j .clauses) i) where
@@ -55,8 +56,8 @@ module _ (j : Job) (i : ℕ) (r : ClauseRead) (read : goal-clause-of r ≡ getEl
 
   pub clause-ok : JobIn j → (c : Clause) → r ≡ Good c → ClauseOk c
   clause-ok range c e =
-      clause-parts (length (j .initial)) (j .threads) (range .variables-most) (range .threads-most) c
-      (all-at (ClauseIn (length (j .initial)) (j .threads)) (j .clauses) (range .clauses) c (at-in (j .clauses) i c (clause-read c e)))
+      clause-parts (width j) (length (j .initial)) (j .threads) (range .variables-most) (range .threads-most) c
+      (all-at (ClauseIn (width j) (length (j .initial)) (j .threads)) (j .clauses) (range .clauses) c (at-in (j .clauses) i c (clause-read c e)))
 
   -- none is bad below the number of the clauses
   pub clause-there : r ≡ Bad → i < length (j .clauses) → ⊥

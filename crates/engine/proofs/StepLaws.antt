@@ -111,6 +111,7 @@ module _ {bytes : List ℕ} {l : Layout} (a : IsAccepted bytes l) (t p : ℕ) {r
   pub operands-by-read : {i : Instr} → r ≡ Holds i → InstrOk i
   operands-by-read {i} e =
       record {
+        width = _;
         vars = _;
         n = _;
         few = a .in-range .variables-most;

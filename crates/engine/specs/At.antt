@@ -2,8 +2,8 @@
 use mathlib.Core.Path.{_≡_}
 use mathlib.Core.List.{List}
 use Prim.Native.Nat.{ℕ, _<_}
-use lib.ListN.{length, getD}
-use Rattle.rules.specs.Limits.{most-threads, most-variables, registers-each}
+use lib.ListN.{length, replicate}
+use Rattle.rules.specs.Limits.{most-threads, most-variables, registers-each, all-registers}
 use Rattle.rules.specs.State.{Pending}
 use Rattle.rules.specs.State as states
 use Rattle.rules.specs.Job.{Job}
@@ -35,10 +35,15 @@ pub record FlushesOf (j : Job) (x : states.State) (m : Model) (vars t : ℕ) (b 
   pub thread : t < length (j .threads)
   pub stores : b ≡ states.pending t x
 
--- the memory with which a job starts
-pub record Memory (j : Job) (mem : List ℕ) : Type 0 where
-  pub size : length mem ≡ most-variables
-  pub cells : (v : ℕ) → v < most-variables → getD mem v 0 ≡ getD (j .initial) v 0
+-- the state in which all is 0 and empty
+abbrev pub blank : states.State
+blank =
+    record {
+      places = replicate most-threads 0;
+      registers = replicate all-registers 0;
+      memory = replicate most-variables 0;
+      buffers = replicate most-threads states.empty-buffer;
+    }
 
 -- a clause speaks of parts that a state has
 abbrev pub ClauseOk : Clause → Type 0

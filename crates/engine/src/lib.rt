@@ -2,15 +2,15 @@
 use buffer::Buf;
 use job::Layout;
 use job::PlaceRead;
-use rules::ALL_REGISTERS;
 use rules::Clause;
+use rules::MEMORY_SIZE;
 use rules::MOST_THREADS;
 use rules::MOST_VARIABLES;
 use rules::May;
 use rules::Model;
+use rules::REGISTERS_SIZE;
 use rules::Reason;
 use rules::THREADS;
-use rules::VARIABLES;
 use state::State;
 use tables::ClauseRead;
 ghost use mathlib.Core.Path.{_≡_};
@@ -26,35 +26,33 @@ ghost use Rattle.job.specs.Laid.{IsAccepted};
 ghost use Rattle.buffer.specs.Held.{BufferOk, held-pending};
 ghost use Rattle.state.specs.Held.{StateOk, held};
 ghost use Rattle.state.specs.Parts.{Holds};
-ghost use Rattle.engine.specs.At.{At, ClauseOk, Memory, FlushesOf, may-execute-at};
+ghost use Rattle.engine.specs.At.{At, ClauseOk, blank, FlushesOf, may-execute-at};
 
-// The job's initial values, and 0 for the variables that it doesn't have.
-fn memory(job: &[u8], l: Layout) -> [u8; VARIABLES]
-    requires { ⌜ IsAccepted (now job) l ⌝ }
-    ensures { λ r. ⌜ Memory (job-of (now (job .entry))) r ⌝ }
+// The state in which all is 0 and empty.
+fn blank() -> State
+    ensures { λ r. ⌜ Holds r blank ⌝ }
 {
-    let mut mem = [0u8; VARIABLES];
-    let mut cell: u8 = 0;
-    while cell < MOST_VARIABLES {
-        mem[cell as usize] = job::parts::initial(job, l, cell);
-        cell += 1;
+    let none = buffer::empty();
+    State {
+        places: [0; THREADS],
+        regs: [0; REGISTERS_SIZE],
+        mem: [0; MEMORY_SIZE],
+        bufs: [none, none, none, none],
     }
-    mem
 }
 
-// The state in which the job starts.
+// The state in which the job starts: each variable has its initial value, 0 if the job doesn't have it.
 pub fn start(job: &[u8], l: Layout) -> State
     requires { ⌜ IsAccepted (now job) l ⌝ }
     ensures { λ r. ⌜ Holds r (jobs.start (job-of (now (job .entry)))) ⌝ }
 {
-    let mem = memory(job, l);
-    let none = buffer::empty();
-    State {
-        places: [0; THREADS],
-        regs: [0; ALL_REGISTERS],
-        mem,
-        bufs: [none, none, none, none],
+    let mut x = blank();
+    let mut cell: u8 = 0;
+    while cell < MOST_VARIABLES {
+        x = state::with_variable(x, cell, job::parts::initial(job, l, cell));
+        cell += 1;
     }
+    x
 }
 
 // Whether a thread t of the job that is at this place, with these stores pending, may execute, and why not.

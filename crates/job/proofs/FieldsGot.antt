@@ -3,15 +3,15 @@ use mathlib.Core.Path.{_≡_, refl, sym, ap, subst, _∙_}
 use mathlib.Core.Bool.{Bool, true, false, cond}
 use mathlib.Core.List.{List}
 use mathlib.Core.Option.{some}
-use Prim.Native.Nat.{ℕ, _+_, _*_}
+use Prim.Native.Nat.{ℕ, _+_}
 use native.Mathlib.Omega.{arith}
 use borrow.Author.Tests.{eqb-true}
 use lib.Dec.{eqb}
 use lib.ListN.{length, getD}
 use Rattle.reach.specs.ListLaws.{at-getD}
-use Rattle.rules.specs.Limits.{first-version, last-version, most-threads, most-variables, most-pending, length-size, head-size, item-size}
+use Rattle.rules.specs.Limits.{first-version, last-version, most-threads, most-variables, most-pending, length-size, head-size, value-size, item-size}
 use Rattle.rules.specs.Job.{Job}
-use Rattle.rules.specs.File.{Read, _>>=_, got, fault, times, byte, field, model-of, capacity-of, flag-of, clause-count-of, thread, clause, ended, fields, length-ok, accepted, refused, decoded, decode}
+use Rattle.rules.specs.File.{Read, _>>=_, got, fault, times, byte, field, model-of, capacity-of, flag-of, clause-count-of, thread, clause, initial-value, ended, fields, length-ok, accepted, refused, decoded, decode}
 use Rattle.rules.specs.declared.Model.{Model}
 use Rattle.rules.specs.declared.Model.the-variants.{Sc, Tso, Pso}
 use Rattle.rules.specs.declared.Instr.{Instr}
@@ -21,7 +21,7 @@ use Rattle.readers.specs.declared.Next.the-variants.{At, Fault}
 use Rattle.readers.specs.Passed.{version-at, model-at, capacity-at, threads-at, variables-at, count-in, version-in, vars-in, model-in, passed, listed, then}
 use Rattle.readers.specs.Stages.{length-stage, head-stage}
 use Rattle.job.specs.Passed.{answer, answer-of}
-use Rattle.job.specs.Stages.{threads-read, threads-of, rest-stage}
+use Rattle.job.specs.Stages.{width-in, values-end, threads-read, threads-of, rest-stage}
 use Rattle.job.specs.Laid.{HeadGood, ThreadsGood, StartsLaid, GoalLaid, Laid}
 use Rattle.readers.proofs.Readers.{items-laid, then-got, times-length}
 use Rattle.readers.proofs.Fields.{range-got, field-then, range-then}
@@ -40,7 +40,7 @@ module _ (bytes : List ℕ) where
     pub version : getD bytes version-at 0 ≡ j .version
     pub model : model-in bytes ≡ some (j .model)
     pub capacity : getD bytes capacity-at 0 ≡ j .capacity
-    pub initial : times (vars-in bytes) (field bytes 6 some) head-size ≡ got (j .initial) (head-size + vars-in bytes)
+    pub initial : times (vars-in bytes) (initial-value bytes (width-in bytes)) head-size ≡ got (j .initial) (values-end bytes)
     pub end : ℕ
     pub threads : threads-read bytes (count-in bytes) ≡ got (j .threads) end
     pub goal : GoalLaid bytes end (j .all-empty) (j .clauses)
@@ -57,15 +57,15 @@ module _ (bytes : List ℕ) where
   goal-got : {A : Type 0} (threads : List (List Instr)) → threads-of bytes ≡ threads → (make : Bool → List Clause → A) (at : ℕ) (a : A) (next : ℕ) →
       (field bytes 5 flag-of >>= λ flag.
       field bytes 5 clause-count-of >>= λ K.
-      times K (clause bytes (vars-in bytes) threads) >>= λ clauses. ended bytes (make flag clauses)) at
+      times K (clause bytes (width-in bytes) (vars-in bytes) threads) >>= λ clauses. ended bytes (make flag clauses)) at
       ≡ got a next →
       (flag : Bool) × (clauses : List Clause) × (make flag clauses ≡ a) × GoalLaid bytes at flag clauses
   unfolding clause byte
   goal-got threads is make at a next e =
       let flag = field-then bytes 5 flag-of _ at a next e in
       let K = range-then bytes 5 _ _ _ (at + 1) a next (flag .rest) in
-      let t = then-got (times (getD bytes (at + 1) 0) (clause bytes (vars-in bytes) threads)) _ (at + 1 + 1) a next (K .rest) in
-      let h = items-laid bytes item-size 5 _ _ (at + 1 + 1) (t .0) (t .1) (t .2) in
+      let t = then-got (times (getD bytes (at + 1) 0) (clause bytes (width-in bytes) (vars-in bytes) threads)) _ (at + 1 + 1) a next (K .rest) in
+      let h = items-laid bytes (item-size (width-in bytes)) 5 _ _ (at + 1 + 1) (t .0) (t .1) (t .2) in
       let last = ended-got _ a (t .1) next (t .3) in
       let two : at + 2 ≡ at + 1 + 1 = omega arith in (
         flag .held,
@@ -74,7 +74,7 @@ module _ (bytes : List ℕ) where
         record {
           flag-is = flag .holds;
           number = sym (h .number);
-          ends = omega (arith, h .behind, h .number, last .0);
+          ends = rw (two, h .number, ← (h .behind)) (last .0);
           clauses-are = λ i m. rw (two, is) (h .values i (omega (arith, h .number)));
         },
       )
@@ -87,8 +87,8 @@ module _ (bytes : List ℕ) where
       let capacity = field-then bytes 3 _ _ capacity-at j next (model .rest) in
       let count = range-then bytes 3 1 most-threads _ threads-at j next (capacity .rest) in
       let vars = range-then bytes 3 1 most-variables _ variables-at j next (count .rest) in
-      let initial = values-then bytes _ (vars-in bytes) head-size j next (vars .rest) in
-      let threads = then-got (times (count-in bytes) (thread bytes (version-in bytes) (vars-in bytes))) _ (head-size + vars-in bytes) j next (initial .2) in
+      let initial = values-then bytes (width-in bytes) _ (vars-in bytes) head-size j next (vars .rest) in
+      let threads = then-got (times (count-in bytes) (thread bytes (version-in bytes) (vars-in bytes))) _ (values-end bytes) j next (initial .2) in
       let goal = goal-got (threads .0) (ap listed (threads .2)) _ (threads .1) j next (threads .3) in
       subst Fields (goal .2)
       (record {
@@ -133,11 +133,10 @@ module _ (bytes : List ℕ) where
     pub accepted-laid :
         (m : Model) → m ≡ j .model → (s : Starts) → StartsLaid bytes s →
         Laid bytes (record { version = getD bytes version-at 0; model = m; capacity = getD bytes capacity-at 0; threads = count-in bytes; vars = vars-in bytes; starts = s }) j
-    unfolding threads-read threads-of field byte
+    unfolding threads-read threads-of initial-value
     accepted-laid m is s h =
         let f = accepted-fields j e in
-        let values = items-laid bytes 1 6 _ _ _ _ _ (f .initial) in
-        let inside = values .inside (f .head .there) in
+        let values = items-laid bytes (value-size (width-in bytes)) 6 _ _ _ _ _ (f .initial) in
         let d : At (f .end) ≡ At (s .goal) = sym (ap passed (f .threads)) ∙ h .goal in
         let end : f .end ≡ s .goal = cc in
         record {
@@ -146,10 +145,8 @@ module _ (bytes : List ℕ) where
           capacity = f .capacity;
           threads = sym (times-length _ _ _ _ _ (f .threads));
           vars = sym (values .number);
-          initial-inside = omega (arith, values .number);
-          initial = λ i m.
-              let p : head-size + 1 * i ≡ head-size + i = omega arith in
-              rw p at (sym (at-getD (j .initial) i _ 0 (sym (values .values i (omega (arith, values .number))))));
+          initial-inside = rw (values .number) (values .inside (f .head .there));
+          initial = λ i m. sym (at-getD (j .initial) i _ 0 (sym (values .values i (omega (arith, values .number)))));
           starts = h;
           code = ap listed (f .threads);
           goal = subst (λ at. GoalLaid bytes at (j .all-empty) (j .clauses)) end (f .goal);

@@ -8,14 +8,15 @@ use lib.ListN.{length, getD, getElem?, set, replicate, length-set}
 use lib.Seq.{getD-set-same, getD-set-other}
 use Rattle.reach.specs.System.{andThen}
 use Rattle.reach.specs.ListLaws.{getD-padded, below-at, at-getD}
-use Rattle.rules.specs.Limits.{most-threads, longest-thread, head-size, item-size}
+use Rattle.rules.specs.Limits.{most-threads, longest-thread, item-size}
 use Rattle.rules.specs.File.{got, byte, instruction, thread}
 use Rattle.rules.specs.declared.Instr.{Instr}
 use Rattle.job.specs.declared.Starts.{Starts}
 use Rattle.readers.specs.declared.Next.the-variants.{At}
 use Rattle.readers.specs.Passed.{count-in, version-in, vars-in, passed, instruction-in-bytes}
-use Rattle.job.specs.Stages.{threads-read, threads-of}
+use Rattle.job.specs.Stages.{width-in, values-end, threads-read, threads-of}
 use Rattle.job.specs.Laid.{ThreadsGood, StartsLaid}
+use Rattle.readers.proofs.Widths.{one-fits}
 use Rattle.readers.proofs.Readers.{listed-got, items-laid, times-none, times-last, times-length, times-item}
 use Rattle.readers.proofs.Fields.{range-then}
 
@@ -34,22 +35,22 @@ module _ {A : Type 0} where
 -- a thread's n stands at `at`, and behind it its instructions, which are all there
 pub record ThreadLaid (bytes : List ℕ) (at : ℕ) (code : List Instr) : Type 0 where
   pub number : getD bytes at 0 ≡ length code
-  pub inside : at + 1 + item-size * length code ≤ length bytes
+  pub inside : at + 1 + item-size (width-in bytes) * length code ≤ length bytes
   pub instructions :
-      (p : ℕ) → p < length code → instruction-in-bytes bytes (version-in bytes) (vars-in bytes) (length code) (at + 1 + item-size * p) ≡ getElem? code p
+      (p : ℕ) → p < length code → instruction-in-bytes bytes (version-in bytes) (vars-in bytes) (length code) (at + 1 + item-size (width-in bytes) * p) ≡ getElem? code p
 
 module _ (bytes : List ℕ) where
   thread-got : (at : ℕ) (code : List Instr) (next : ℕ) → thread bytes (version-in bytes) (vars-in bytes) at ≡ got code next →
-      (next ≡ at + 1 + item-size * length code) × ThreadLaid bytes at code
+      (next ≡ at + 1 + item-size (width-in bytes) * length code) × ThreadLaid bytes at code
   unfolding thread instruction byte
   thread-got at code next e =
       let f = range-then bytes 4 0 longest-thread _ at code next e in
-      let h = items-laid bytes item-size 4 _ (getD bytes at 0) (at + 1) code next (f .rest) in
-      let end = h .inside (omega (arith, f .there)) in (
-        omega (arith, h .behind, h .number),
+      let h = items-laid bytes (item-size (width-in bytes)) 4 _ (getD bytes at 0) (at + 1) code next (f .rest) in
+      let behind : next ≡ at + 1 + item-size (width-in bytes) * length code = rw (h .number) (h .behind) in (
+        behind,
         record {
           number = sym (h .number);
-          inside = omega (arith, h .behind, h .number, end);
+          inside = rw (← behind) (h .inside (omega (arith, f .there)));
           instructions = λ p k. rw (h .number) (h .values p (omega (arith, h .number)));
         },
       )
@@ -78,7 +79,7 @@ module _ (bytes : List ℕ) where
       thread-laid = thread-got at _ _ (there .1) .1
 
       -- the next begins behind its instructions
-      pub next-start : passed (threads-read bytes (t + 1)) ≡ At (at + 1 + item-size * getD bytes at 0)
+      pub next-start : passed (threads-read bytes (t + 1)) ≡ At (at + 1 + item-size (width-in bytes) * getD bytes at 0)
       unfolding threads-read
       next-start =
           let n : t + 1 ≡ suc t = omega arith in
@@ -92,7 +93,7 @@ pub record Walked (bytes threads : List ℕ) (at t : ℕ) : Type 0 where
   pub absent : (i : ℕ) → t ≤ i → getD threads i 0 ≡ 0
 
 module _ {bytes : List ℕ} (good : ThreadsGood bytes) where
-  pub walked-none : Walked bytes (replicate most-threads 0) (head-size + vars-in bytes) 0
+  pub walked-none : Walked bytes (replicate most-threads 0) (values-end bytes) 0
   unfolding threads-read
   walked-none = record { come = ap passed (times-none _ _); room = refl; behind = λ i h. absurd (omega arith); absent = λ i h. getD-padded [] most-threads i 0 (omega arith) }
 
@@ -100,7 +101,7 @@ module _ {bytes : List ℕ} (good : ThreadsGood bytes) where
     pub walked-inside : t < count-in bytes → at < length bytes
     walked-inside h = omega (arith, thread-laid bytes good t at h (w .come) .inside)
 
-    pub walked-next : t < count-in bytes → Walked bytes (set threads t at) (at + 1 + item-size * getD bytes at 0) (t + 1)
+    pub walked-next : t < count-in bytes → Walked bytes (set threads t at) (at + 1 + item-size (width-in bytes) * getD bytes at 0) (t + 1)
     walked-next h =
         record {
           come = next-start bytes good t at h (w .come);
@@ -127,10 +128,10 @@ module _ {bytes : List ℕ} {s : Starts} (h : StartsLaid bytes s) where
     pub place-there : t < count-in bytes
     place-there = let m = there-in (threads-of bytes) t p k in omega (arith, threads-number bytes starts-good)
 
-    pub place-inside : getD (s .threads) t 0 + 1 + item-size * p + item-size ≤ length bytes
-    place-inside = omega (arith, start-laid t place-there .inside)
+    pub place-inside : getD (s .threads) t 0 + 1 + item-size (width-in bytes) * p + item-size (width-in bytes) ≤ length bytes
+    place-inside = omega (arith, start-laid t place-there .inside, one-fits (item-size (width-in bytes)) p _ k)
 
     pub place-holds :
-        instruction-in-bytes bytes (version-in bytes) (vars-in bytes) (length (getD (threads-of bytes) t [])) (getD (s .threads) t 0 + 1 + item-size * p)
+        instruction-in-bytes bytes (version-in bytes) (vars-in bytes) (length (getD (threads-of bytes) t [])) (getD (s .threads) t 0 + 1 + item-size (width-in bytes) * p)
         ≡ getElem? (getD (threads-of bytes) t []) p
     place-holds = start-laid t place-there .instructions p k

@@ -5,7 +5,7 @@ use mathlib.Core.List.{List}
 use mathlib.Core.Option.{some}
 use Prim.Native.Nat.{ℕ, _+_, _*_, _≤_, _<_}
 use lib.ListN.{length, getD, getElem?}
-use Rattle.rules.specs.Limits.{most-threads, head-size, item-size}
+use Rattle.rules.specs.Limits.{most-threads, head-size, value-size, item-size}
 use Rattle.rules.specs.Job.{Job}
 use Rattle.rules.specs.File as file
 use Rattle.rules.specs.Sound.{JobIn}
@@ -16,7 +16,7 @@ use Rattle.job.specs.declared.Starts.{Starts}
 use Rattle.readers.specs.declared.Next.the-variants.{At}
 use Rattle.readers.specs.Passed.{count-in, vars-in, passed}
 use Rattle.job.specs.Passed.{clause-in-bytes}
-use Rattle.job.specs.Stages.{threads-read, threads-of}
+use Rattle.job.specs.Stages.{width-in, threads-read, threads-of}
 
 -- a head that was good: its bytes are there, and the threads that it counts have room in a layout
 pub record HeadGood (bytes : List ℕ) : Type 0 where
@@ -41,8 +41,8 @@ pub record StartsLaid (bytes : List ℕ) (s : Starts) : Type 0 where
 pub record GoalLaid (bytes : List ℕ) (at : ℕ) (flag : Bool) (clauses : List Clause) : Type 0 where
   pub flag-is : file.flag-of (getD bytes at 0) ≡ some flag
   pub number : getD bytes (at + 1) 0 ≡ length clauses
-  pub ends : at + 2 + item-size * length clauses ≡ length bytes
-  pub clauses-are : (i : ℕ) → i < length clauses → clause-in-bytes bytes (vars-in bytes) (threads-of bytes) (at + 2 + item-size * i) ≡ getElem? clauses i
+  pub ends : at + 2 + item-size (width-in bytes) * length clauses ≡ length bytes
+  pub clauses-are : (i : ℕ) → i < length clauses → clause-in-bytes bytes (width-in bytes) (vars-in bytes) (threads-of bytes) (at + 2 + item-size (width-in bytes) * i) ≡ getElem? clauses i
 
 pub record Laid (bytes : List ℕ) (l : Layout) (j : Job) : Type 0 where
   pub version : l .version ≡ j .version
@@ -50,8 +50,8 @@ pub record Laid (bytes : List ℕ) (l : Layout) (j : Job) : Type 0 where
   pub capacity : l .capacity ≡ j .capacity
   pub threads : l .threads ≡ length (j .threads)
   pub vars : l .vars ≡ length (j .initial)
-  pub initial-inside : head-size + length (j .initial) ≤ length bytes
-  pub initial : (i : ℕ) → i < length (j .initial) → getD bytes (head-size + i) 0 ≡ getD (j .initial) i 0
+  pub initial-inside : head-size + value-size (width-in bytes) * length (j .initial) ≤ length bytes
+  pub initial : (i : ℕ) → i < length (j .initial) → file.value bytes (width-in bytes) (head-size + value-size (width-in bytes) * i) ≡ getD (j .initial) i 0
   pub starts : StartsLaid bytes (l .starts)
   pub code : threads-of bytes ≡ j .threads
   pub goal : GoalLaid bytes (l .starts .goal) (j .all-empty) (j .clauses)

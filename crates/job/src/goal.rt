@@ -7,8 +7,8 @@ use readers::NOT_WHOLE;
 use readers::Next;
 use readers::THREADS_AT;
 use readers::VARIABLES_AT;
+use readers::VERSION_AT;
 use rules::FEWEST_CLAUSES;
-use rules::ITEM_SIZE;
 use rules::MOST_CLAUSES;
 use tables::ClauseRead;
 ghost use mathlib.Core.Path.{_≡_};
@@ -19,17 +19,18 @@ ghost use Rattle.rules.specs.File as file;
 ghost use Rattle.tables.specs.Told.{goal-clause-of};
 ghost use Rattle.readers.specs.Passed.{vars-in, passed};
 ghost use Rattle.job.specs.Passed.{clause-in-bytes};
-ghost use Rattle.job.specs.Stages.{threads-of, ending, clauses-stage, goal-stage};
+ghost use Rattle.job.specs.Stages.{width-in, threads-of, ending, clauses-stage, goal-stage};
 ghost use Rattle.job.specs.Laid.{StartsLaid};
 
 // The bytes from `at` as a clause over the threads.
 pub fn clause_from(job: &[u8], s: Starts, at: usize) -> ClauseRead
-    requires { ⌜ StartsLaid (now job) s × (at + item-size ≤ length (now job)) ⌝ }
+    requires { ⌜ StartsLaid (now job) s × (at + item-size (width-in (now job)) ≤ length (now job)) ⌝ }
     ensures { λ r. ⌜
-        goal-clause-of r ≡ clause-in-bytes (now (job .entry)) (vars-in (now (job .entry))) (threads-of (now (job .entry))) at
+        goal-clause-of r
+        ≡ clause-in-bytes (now (job .entry)) (width-in (now (job .entry))) (vars-in (now (job .entry))) (threads-of (now (job .entry))) at
         ⌝ }
 {
-    let i = readers::item_at(job, at);
+    let i = readers::item_at(job, tables::width(job[VERSION_AT]), at);
     let n = threads::thread_length(job, s, i.a);
     tables::clause(job[VARIABLES_AT], job[THREADS_AT], n, i.op, i.a, i.b, i.c)
 }
@@ -37,11 +38,13 @@ pub fn clause_from(job: &[u8], s: Starts, at: usize) -> ClauseRead
 fn clause(job: &[u8], s: Starts, at: usize) -> Next
     requires { ⌜ StartsLaid (now job) s ⌝ }
     ensures { λ r. ⌜
-        r ≡ passed (file.clause (now (job .entry)) (vars-in (now (job .entry))) (threads-of (now (job .entry))) at)
+        r
+        ≡ passed (file.clause (now (job .entry)) (width-in (now (job .entry))) (vars-in (now (job .entry))) (threads-of (now (job .entry))) at)
         ⌝ }
 {
-    if readers::item_there(job, at) {
-        let next = at + ITEM_SIZE;
+    let size = readers::item_size(tables::width(job[VERSION_AT]));
+    if readers::is_there(job, at, size) {
+        let next = at + size;
         match clause_from(job, s, at) {
             ClauseRead::Good(_) => Next::At(next),
             ClauseRead::Bad => Next::Fault(GOAL_BAD, at),
@@ -54,7 +57,9 @@ fn clause(job: &[u8], s: Starts, at: usize) -> Next
 fn clauses(job: &[u8], s: Starts, count: u8, start: usize) -> Next
     requires { ⌜ StartsLaid (now job) s ⌝ }
     ensures { λ r. ⌜
-        r ≡ passed (file.times count (file.clause (now (job .entry)) (vars-in (now (job .entry))) (threads-of (now (job .entry)))) start)
+        r
+        ≡ passed
+        (file.times count (file.clause (now (job .entry)) (width-in (now (job .entry))) (vars-in (now (job .entry))) (threads-of (now (job .entry)))) start)
         ⌝ }
 {
     let mut at = start;

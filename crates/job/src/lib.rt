@@ -71,9 +71,12 @@ fn behind_head(job: &[u8]) -> Next
     ensures { λ r. ⌜ r ≡ rest-stage (now (job .entry)) ⌝ }
 {
     let vars = job[VARIABLES_AT];
-    let start = HEAD_SIZE + readers::wide(vars);
+    let size = readers::value_size(tables::width(job[VERSION_AT]));
+    let start = HEAD_SIZE + size * readers::wide(vars);
     if job.len() < start {
-        return Next::Fault(NOT_WHOLE, job.len());
+        // The first that isn't wholly there begins behind those that are.
+        let whole = (job.len() - HEAD_SIZE) / size;
+        return Next::Fault(NOT_WHOLE, HEAD_SIZE + size * whole);
     }
     match readers::threads(job, job[VERSION_AT], vars, job[THREADS_AT], start) {
         Next::At(_) => goal::goal(job, threads::starts(job)),

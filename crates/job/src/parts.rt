@@ -6,7 +6,6 @@ use crate::threads;
 use readers::VARIABLES_AT;
 use readers::VERSION_AT;
 use rules::HEAD_SIZE;
-use rules::ITEM_SIZE;
 use tables::ClauseRead;
 use tables::InstrRead;
 ghost use mathlib.Core.Path.{_≡_};
@@ -76,12 +75,13 @@ pub fn clause_at(job: &[u8], l: Layout, i: u8) -> ClauseRead
         return ClauseRead::Bad;
     }
     let s = l.starts;
-    let at = s.goal + 2 + ITEM_SIZE * readers::wide(i);
+    let size = readers::item_size(tables::width(job[VERSION_AT]));
+    let at = s.goal + 2 + size * readers::wide(i);
     goal::clause_from(job, s, at)
 }
 
 // The initial value of variable v, 0 for one that is not there.
-pub fn initial(job: &[u8], l: Layout, v: u8) -> u8
+pub fn initial(job: &[u8], l: Layout, v: u8) -> u16
     requires { ⌜ IsAccepted (now job) l ⌝ }
     ensures { λ r. ⌜ r ≡ getD (job-of (now (job .entry)) .initial) v 0 ⌝ }
 {
@@ -89,5 +89,10 @@ pub fn initial(job: &[u8], l: Layout, v: u8) -> u8
     if vars <= v {
         return 0;
     }
-    job[HEAD_SIZE + readers::wide(v)]
+    let w = tables::width(job[VERSION_AT]);
+    readers::value(
+        job,
+        w,
+        HEAD_SIZE + readers::value_size(w) * readers::wide(v),
+    )
 }

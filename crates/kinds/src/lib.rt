@@ -12,7 +12,7 @@ pub fn control_of(i: Instr) -> Control
 {
     match i {
         Instr::Set(_, _) => Control::On,
-        Instr::Add(_, _) => Control::On,
+        Instr::Add(_, _, _) => Control::On,
         Instr::Load(_, _) => Control::On,
         Instr::Store(_, _) => Control::On,
         Instr::Fence => Control::On,
@@ -30,7 +30,7 @@ pub fn wait_of(i: Instr) -> Wait
 {
     match i {
         Instr::Set(_, _) => Wait::Never,
-        Instr::Add(_, _) => Wait::Never,
+        Instr::Add(_, _, _) => Wait::Never,
         Instr::Load(_, _) => Wait::Never,
         Instr::Store(_, _) => Wait::ForRoom,
         Instr::Fence => Wait::UntilEmpty,
@@ -48,7 +48,7 @@ pub fn role_of(i: Instr) -> Role
 {
     match i {
         Instr::Set(_, _) => Role::Other,
-        Instr::Add(_, _) => Role::Other,
+        Instr::Add(_, _, _) => Role::Other,
         Instr::Load(_, _) => Role::Loads,
         Instr::Store(_, _) => Role::Stores,
         Instr::Fence => Role::Fences,

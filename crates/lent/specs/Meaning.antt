@@ -14,7 +14,7 @@ pub record Lent : Type 0 where
   pub links : List ℕ
   pub schedule : List ℕ
 
--- "N is the smallest of table bytes / 96 rounded down, links, schedule bytes, and 65,536", for a slot of `size` bytes
+-- "N is the smallest of table bytes / 152 rounded down, links, schedule bytes, and 65,536", for a slot of `size` bytes
 unfoldable pub slots-lent : (size most : ℕ) → Lent → ℕ
 slots-lent size most m = min (length (m .table) / size) (min (length (m .links)) (min (length (m .schedule)) most))
 

@@ -12,10 +12,12 @@ use Rattle.rules.specs.Step.{joined-group, has-room, free}
 use Rattle.rules.specs.MayLaws.{needs-yes}
 use Rattle.rules.specs.declared.May.the-variants.{Yes}
 use Rattle.rules.specs.declared.Reason.the-variants.{BufferFull}
-use Rattle.rules.specs.Sound.{InstrIn}
+use Rattle.rules.specs.Sound.{SourceIn, InstrIn}
 use Rattle.rules.specs.Onward.{ControlIn}
 use Rattle.rules.specs.declared.Model.{Model}
 use Rattle.rules.specs.declared.Model.the-variants.{Sc, Tso, Pso}
+use Rattle.rules.specs.declared.Width.{Width}
+use Rattle.rules.specs.declared.Source.{Source}
 use Rattle.rules.specs.declared.Instr.{Instr}
 use Rattle.rules.specs.declared.Control.{Control}
 use Rattle.state.specs.Held.{held}
@@ -25,14 +27,19 @@ use Rattle.rules.specs.declared.Wait.the-variants.{Never, ForRoom, UntilEmpty}
 
 -- an instruction of some job: of a thread of n instructions, with no more variables than a state has
 pub record InstrOk (i : Instr) : Type 0 where
+  pub width : Width
   pub vars : ℕ
   pub n : ℕ
   pub few : vars ≤ most-variables
-  pub fits : InstrIn vars n i
+  pub fits : InstrIn width vars n i
 
 -- a store that joins under PSO has its group's number in the upper half of a byte
 abbrev pub GroupFits : State → ℕ → Type 0
 GroupFits s t = joined-group (buffer t (held s)) < group-unit
+
+-- what a store of such an instruction carries
+abbrev pub SourceOk : Source → Type 0
+SourceOk a = (u : Width) × SourceIn u a
 
 -- the control of such an instruction
 abbrev pub ControlOk : Control → Type 0

@@ -1,32 +1,44 @@
 // What an instruction does to registers, memory and its thread's buffer, and where its thread goes on.
+use rules::BYTE_VALUES;
 use rules::Control;
 use rules::Instr;
 use rules::Model;
 use rules::Source;
+use rules::Width;
 use state::State;
 ghost use mathlib.Core.Path.{_≡_};
 ghost use mathlib.Core.Bool.{true};
-ghost use Prim.Native.Nat.{_<_};
-ghost use Rattle.rules.specs.Limits.{registers-each, most-variables, most-pending};
+ghost use Prim.Native.Nat.{_+_, _%_, _<_};
+ghost use Rattle.rules.specs.Limits.{registers-each, most-variables, most-pending, values};
 ghost use Rattle.rules.specs.State.{pending};
 ghost use Rattle.rules.specs.Kinds.{wait-of};
 ghost use Rattle.rules.specs.Step as rules;
 ghost use Rattle.rules.specs.declared.May.the-variants.{Yes};
-ghost use Rattle.rules.specs.Sound.{SourceIn};
 ghost use Rattle.rules.specs.declared.Model.{Model};
 ghost use Rattle.rules.specs.declared.Instr.the-variants.{Add, Load, Xchg, Cmpx};
 ghost use Rattle.state.specs.Held.{held};
 ghost use Rattle.state.specs.Parts.{At, Runs, Holds};
-ghost use Rattle.machine.specs.Operands.{ControlOk, InstrOk, GroupFits};
+ghost use Rattle.machine.specs.Operands.{SourceOk, ControlOk, InstrOk, GroupFits};
 
-// Register r becomes r + k; 255 plus 1 is 0.
-fn add(x: State, t: u8, r: u8, k: u8) -> State
+// The sum modulo the values of the width: in one byte 255 plus 1 is 0, in two 65,535 plus 1.
+fn sum(w: Width, a: u16, k: u16) -> u16
+    ensures { λ s. ⌜ s ≡ (a + k) % values w ⌝ }
+{
+    let wrapped = std::num::wrapping_add_u16(a, k);
+    match w {
+        Width::One => wrapped % (BYTE_VALUES as u16),
+        Width::Two => wrapped,
+    }
+}
+
+// Register r becomes r + k.
+fn add(x: State, t: u8, w: Width, r: u8, k: u16) -> State
     requires { ⌜ At x t ⌝ }
     requires { ⌜ r < registers-each ⌝ }
-    ensures { λ y. ⌜ ((m : Model) → Holds y (rules.changed m t (Add r k) (held x))) ⌝ }
+    ensures { λ y. ⌜ ((m : Model) → Holds y (rules.changed m t (Add w r k) (held x))) ⌝ }
 {
-    let sum = std::num::wrapping_add_u8(state::register(x, t, r), k);
-    state::with_register(x, t, r, sum)
+    let total = sum(w, state::register(x, t, r), k);
+    state::with_register(x, t, r, total)
 }
 
 // Register r takes the newest pending store of the thread's own to v, else memory.
@@ -41,9 +53,9 @@ fn load(x: State, t: u8, r: u8, v: u8) -> State
 }
 
 // What a store carries.
-fn carried(x: State, t: u8, a: Source) -> u8
+fn carried(x: State, t: u8, a: Source) -> u16
     requires { ⌜ At x t ⌝ }
-    requires { ⌜ SourceIn a ⌝ }
+    requires { ⌜ SourceOk a ⌝ }
     ensures { λ k. ⌜ k ≡ rules.carried t (held x) a ⌝ }
 {
     match a {
@@ -53,7 +65,7 @@ fn carried(x: State, t: u8, a: Source) -> u8
 }
 
 // A store of k to v, which has room: under SC straight to memory, under TSO behind the last, under PSO by its group and variable.
-fn stored(m: Model, x: State, t: u8, v: u8, k: u8) -> State
+fn stored(m: Model, x: State, t: u8, v: u8, k: u16) -> State
     requires { ⌜ At x t ⌝ }
     requires { ⌜ v < most-variables ⌝ }
     requires { ⌜ rules.has-room m most-pending (pending t (held x)) ≡ true ⌝ }
@@ -86,7 +98,7 @@ fn xchg(x: State, t: u8, r: u8, v: u8) -> State
 }
 
 // Memory's v becomes k if it equals register r, and r takes the old value either way.
-fn cmpx(x: State, t: u8, r: u8, v: u8, k: u8) -> State
+fn cmpx(x: State, t: u8, r: u8, v: u8, k: u16) -> State
     requires { ⌜ At x t ⌝ }
     requires { ⌜ r < registers-each ⌝ }
     requires { ⌜ v < most-variables ⌝ }
@@ -126,7 +138,7 @@ pub fn changed(i: Instr, m: Model, x: State, t: u8) -> State
 {
     match i {
         Instr::Set(r, k) => state::with_register(x, t, r, k),
-        Instr::Add(r, k) => add(x, t, r, k),
+        Instr::Add(w, r, k) => add(x, t, w, r, k),
         Instr::Load(r, v) => load(x, t, r, v),
         Instr::Store(a, v) => stored(m, x, t, v, carried(x, t, a)),
         Instr::Fence => x,

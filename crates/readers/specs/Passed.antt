@@ -4,8 +4,9 @@ use mathlib.Core.List.{List, []}
 use mathlib.Core.Option.{Option, none, some}
 use Prim.Native.Nat.{ℕ, _+_}
 use lib.ListN.{getD}
-use Rattle.rules.specs.Limits.{length-size}
-use Rattle.rules.specs.File.{Read, got, fault, model-of, instruction-of}
+use Rattle.rules.specs.Limits.{length-size, width-of}
+use Rattle.rules.specs.File.{Read, got, fault, model-of, value, instruction-of}
+use Rattle.rules.specs.declared.Width.{Width}
 use Rattle.rules.specs.declared.Instr.{Instr}
 use Rattle.rules.specs.declared.Model.{Model}
 use Rattle.readers.specs.declared.Item.{Item}
@@ -48,17 +49,17 @@ model-read ModelReads.NamesNone = none
 abbrev pub model-in : List ℕ → Option Model
 model-in bytes = model-of (getD bytes model-at 0)
 
--- the bytes of an item that begins at an offset
-pub record ItemAt (bytes : List ℕ) (at : ℕ) (i : Item) : Type 0 where
+-- the parts of an item that begins at an offset
+pub record ItemAt (bytes : List ℕ) (w : Width) (at : ℕ) (i : Item) : Type 0 where
   pub op : i .op ≡ getD bytes at 0
   pub a : i .a ≡ getD bytes (at + 1) 0
   pub b : i .b ≡ getD bytes (at + 2) 0
-  pub c : i .c ≡ getD bytes (at + 3) 0
+  pub c : i .c ≡ value bytes w (at + 3)
 
 -- what they are
 abbrev pub instruction-in-bytes : List ℕ → (version vars n at : ℕ) → Option Instr
 instruction-in-bytes bytes version vars n at =
-    instruction-of version vars n (getD bytes at 0) (getD bytes (at + 1) 0) (getD bytes (at + 2) 0) (getD bytes (at + 3) 0)
+    instruction-of version vars n (getD bytes at 0) (getD bytes (at + 1) 0) (getD bytes (at + 2) 0) (value bytes (width-of version) (at + 3))
 
 -- where a reader has come to, its value forgotten
 abbrev pub passed : {A : Type 0} → Read A → Next

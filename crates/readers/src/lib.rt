@@ -1,22 +1,25 @@
 // The readers of the job file, up to the end of its threads, each from an offset: where the next item begins, or the first fault.
 use rules::BYTE_VALUES;
 use rules::FIRST_VERSION;
-use rules::ITEM_SIZE;
+use rules::HEAD_SIZE;
 use rules::LAST_VERSION;
 use rules::LENGTH_SIZE;
-use rules::LONGEST_FILE;
 use rules::LONGEST_THREAD;
+use rules::MOST_CLAUSES;
 use rules::MOST_PENDING;
 use rules::MOST_THREADS;
 use rules::MOST_VARIABLES;
 use rules::Model;
 use rules::SHORTEST_FILE;
+use rules::THREADS;
+use rules::VARIABLES;
+use rules::Width;
 use tables::InstrRead;
 ghost use mathlib.Core.Path.{_≡_};
 ghost use Prim.Native.Nat.{_+_, _≤_, _<_};
 ghost use lib.Dec.{leb};
 ghost use lib.ListN.{length};
-ghost use Rattle.rules.specs.Limits.{byte-values, item-size};
+ghost use Rattle.rules.specs.Limits.{byte-values, width-of, value-size, item-size, longest-file};
 ghost use Rattle.rules.specs.File as file;
 ghost use Rattle.tables.specs.Told.{instr-of};
 ghost use Rattle.readers.specs.Passed.{ItemAt, capacity-at, model-read, passed, then, instruction-in-bytes};
@@ -24,10 +27,11 @@ ghost use Rattle.readers.specs.Stages.{length-stage, capacity-stage, hea
 
 // The refusals of 01, by number; the search has one more.
 
-// "fewer than 3 bytes, more than 597, or length wrong"; request 2: "the longest file becomes 1,109 bytes"
+// "fewer than 3 bytes, more than 597, or length wrong"; request 2: "the longest file becomes 1,109 bytes"; request 10: "1,389 bytes where the version
+// byte is 3"
 pub const LENGTH_WRONG: u8 = 1;
 
-// "version not 1"; request 7: "refusal 2 now means neither version"
+// "version not 1"; request 10: "refusal 2 now means none of the three"
 pub const VERSION_WRONG: u8 = 2;
 
 // "model, C, T or V out of range"
@@ -58,12 +62,12 @@ pub const LAST_MODEL: u8 = 2;
 
 pub const LAST_FLAG: u8 = 1;
 
-// "Instructions are four bytes: op, a, b, c", and so are clauses.
+// "Instructions are four bytes: op, a, b, c", and so are clauses; in version 3 "op, a, b, then k of two bytes".
 pub struct Item {
     pub op: u8,
     pub a: u8,
     pub b: u8,
-    pub c: u8,
+    pub c: u16,
 }
 
 // Reading has come to an offset, or to the first fault: its number and offset.
@@ -84,6 +88,44 @@ pub fn wide(x: u8) -> usize
     x as usize
 }
 
+// The bytes of a value.
+pub fn value_size(w: Width) -> usize
+    ensures { λ r. ⌜ r ≡ value-size w ⌝ }
+{
+    match w {
+        Width::One => 1,
+        Width::Two => 2,
+    }
+}
+
+// The bytes of an instruction or a clause.
+pub fn item_size(w: Width) -> usize
+    ensures { λ r. ⌜ r ≡ item-size w ⌝ }
+{
+    3 + value_size(w)
+}
+
+// The longest file of values this wide: the head, the variables, the threads, flag, K, the clauses.
+fn longest_file(w: Width) -> usize
+    ensures { λ r. ⌜ r ≡ longest-file w ⌝ }
+{
+    let values = value_size(w) * VARIABLES;
+    let item = item_size(w);
+    let threads = THREADS * (1 + item * (LONGEST_THREAD as usize));
+    HEAD_SIZE + values + threads + 1 + 1 + item * (MOST_CLAUSES as usize)
+}
+
+// The value that stands at `at`.
+pub fn value(job: &[u8], w: Width, at: usize) -> u16
+    requires { ⌜ at + value-size w ≤ length (now job) ⌝ }
+    ensures { λ r. ⌜ r ≡ file.value (now (job .entry)) w at ⌝ }
+{
+    match w {
+        Width::One => words::word(0, job[at]),
+        Width::Two => words::word(job[at], job[at + 1]),
+    }
+}
+
 // The length field, which counts the bytes behind it.
 pub fn length_field(job: &[u8]) -> Next
     ensures { λ r. ⌜ r ≡ length-stage (now (job .entry)) ⌝ }
@@ -91,7 +133,7 @@ pub fn length_field(job: &[u8]) -> Next
     if job.len() < SHORTEST_FILE {
         return Next::Fault(LENGTH_WRONG, 0);
     }
-    if LONGEST_FILE < job.len() {
+    if longest_file(tables::width(job[VERSION_AT])) < job.len() {
         return Next::Fault(LENGTH_WRONG, 0);
     }
     let following = wide(job[0]) * BYTE_VALUES + wide(job[1]);
@@ -177,36 +219,37 @@ pub fn model(k: u8) -> ModelRead
     }
 }
 
-// The bytes of an instruction or a clause that begins at `at`.
-pub fn item_at(job: &[u8], at: usize) -> Item
-    requires { ⌜ at + item-size ≤ length (now job) ⌝ }
-    ensures { λ r. ⌜ ItemAt (now (job .entry)) at r ⌝ }
+// The parts of an instruction or a clause that begins at `at`.
+pub fn item_at(job: &[u8], w: Width, at: usize) -> Item
+    requires { ⌜ at + item-size w ≤ length (now job) ⌝ }
+    ensures { λ r. ⌜ ItemAt (now (job .entry)) w at r ⌝ }
 {
+    let c = value(job, w, at + 3);
     Item {
         op: job[at],
         a: job[at + 1],
         b: job[at + 2],
-        c: job[at + 3],
+        c,
     }
 }
 
 // The bytes from `at` as an instruction.
 pub fn instruction_from(job: &[u8], version: u8, vars: u8, n: u8, at: usize) -> InstrRead
-    requires { ⌜ at + item-size ≤ length (now job) ⌝ }
+    requires { ⌜ at + item-size (width-of version) ≤ length (now job) ⌝ }
     ensures { λ r. ⌜ instr-of r ≡ instruction-in-bytes (now (job .entry)) version vars n at ⌝ }
 {
-    let i = item_at(job, at);
+    let i = item_at(job, tables::width(version), at);
     tables::instruction(version, vars, n, i.op, i.a, i.b, i.c)
 }
 
-// Whether the bytes of an instruction or a clause are there from `at`.
-pub fn item_there(job: &[u8], at: usize) -> bool
-    ensures { λ r. ⌜ r ≡ leb (at + item-size) (length (now (job .entry))) ⌝ }
+// Whether so many bytes are there from `at`.
+pub fn is_there(job: &[u8], at: usize, size: usize) -> bool
+    ensures { λ r. ⌜ r ≡ leb (at + size) (length (now (job .entry))) ⌝ }
 {
-    if job.len() < ITEM_SIZE {
+    if job.len() < size {
         return false;
     }
-    if job.len() - ITEM_SIZE < at {
+    if job.len() - size < at {
         return false;
     }
     true
@@ -215,8 +258,9 @@ pub fn item_there(job: &[u8], at: usize) -> bool
 fn instruction(job: &[u8], version: u8, vars: u8, n: u8, at: usize) -> Next
     ensures { λ r. ⌜ r ≡ passed (file.instruction (now (job .entry)) version vars n at) ⌝ }
 {
-    if item_there(job, at) {
-        let next = at + ITEM_SIZE;
+    let size = item_size(tables::width(version));
+    if is_there(job, at, size) {
+        let next = at + size;
         match instruction_from(job, version, vars, n, at) {
             InstrRead::Good(_) => Next::At(next),
             InstrRead::Bad => Next::Fault(THREAD_BAD, at),

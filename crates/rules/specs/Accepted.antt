@@ -10,14 +10,16 @@ use lib.Dec.{T, eqb, leb, leb→le, ltb→lt}
 use lib.ListN.{length, getD}
 use Rattle.reach.specs.Lists.{All}
 use Rattle.reach.specs.ListLaws.{all-imp, all-getD}
-use Rattle.rules.specs.Limits.{values, byte-values, longest-thread, length-size, item-size}
+use Rattle.rules.specs.Limits.{byte-values, longest-thread, length-size, width-of, value-size, values, item-size}
 use Rattle.rules.specs.Job.{Job}
 use Rattle.rules.specs.Step.{given}
 use Rattle.rules.specs.Tests.{both, both-iff}
 use Rattle.rules.specs.File.{Read, got, fault, Reader, read-on, _>>=_, done, times, judged, byte, item, field, in-range, capacity-of}
-use Rattle.rules.specs.File.{register-ok, zero-ok, instruction-of, instruction, thread, clause-of, clause, ended, fields}
+use Rattle.rules.specs.File.{register-ok, zero-ok, instruction-of, instruction, thread, clause-of, clause, initial-value, value, ended, fields}
 use Rattle.rules.specs.File.{length-ok, Decoded, accepted, refused, decoded, decode, held-job, job-of}
-use Rattle.rules.specs.Sound.{InstrIn, ClauseIn, CapacityIn, JobIn}
+use Rattle.rules.specs.Sound.{Value, InstrIn, ClauseIn, CapacityIn, JobIn}
+use Rattle.rules.specs.declared.Width.{Width}
+use Rattle.rules.specs.declared.Width.the-variants.{One, Two}
 use Rattle.rules.specs.declared.Model.{Model}
 use Rattle.rules.specs.declared.Model.the-variants.{Sc, Tso, Pso}
 use Rattle.rules.specs.declared.Instr.{Instr}
@@ -125,22 +127,19 @@ capacity-in Sc k = simp row (omega tests)
 capacity-in Tso k = simp row (omega tests)
 capacity-in Pso k = simp row (omega tests)
 
-instruction-in : (version vars n a b c : ℕ) → c < byte-values → (op : ℕ) → IfSome (InstrIn vars n) (instruction-of version vars n op a b c)
+instruction-in : (version vars n a b c : ℕ) → Value (width-of version) c → (op : ℕ)
+    → IfSome (InstrIn (width-of version) vars n) (instruction-of version vars n op a b c)
 unfolding instruction-of register-ok zero-ok
 instruction-in version vars n a b c h = by-rows 12 _ (simp row (omega tests))
 
-clause-in : (vars : ℕ) (threads : List (List Instr)) (a b c : ℕ) → c < byte-values →
-    (kind : ℕ) → IfSome (ClauseIn vars threads) (clause-of vars (length threads) (length (getD threads a [])) kind a b c)
+clause-in : (w : Width) (vars : ℕ) (threads : List (List Instr)) (a b c : ℕ) → Value w c →
+    (kind : ℕ) → IfSome (ClauseIn w vars threads) (clause-of vars (length threads) (length (getD threads a [])) kind a b c)
 unfolding clause-of register-ok zero-ok
-clause-in vars threads a b c h = by-rows 4 _ (simp row (omega tests))
-
--- every byte is a value
-value-in : (k : ℕ) → k < byte-values → IfSome (λ x. x < values) (some k)
-value-in k h = of-some {a = k} (omega arith)
+clause-in w vars threads a b c h = by-rows 4 _ (simp row (omega tests))
 
 -- JobIn's two demands on a thread, as one
-abbrev ThreadIn : ℕ → List Instr → Type 0
-ThreadIn vars code = (length code ≤ longest-thread) × All (InstrIn vars (length code)) code
+abbrev ThreadIn : Width → ℕ → List Instr → Type 0
+ThreadIn w vars code = (length code ≤ longest-thread) × All (InstrIn w vars (length code)) code
 
 -- The file, field by field.
 module _ (bytes : List ℕ) (small : All (λ k. k < byte-values) bytes) where
@@ -148,6 +147,12 @@ module _ (bytes : List ℕ) (small : All (λ k. k < byte-values) bytes) where
   byte-in : (at : ℕ) → byte bytes at < byte-values
   unfolding byte
   byte-in at = all-getD (λ k. k < byte-values) bytes at 0 small (omega arith)
+
+  -- a value of the file is one of its width
+  value-in : (w : Width) (at : ℕ) → Value w (value bytes w at)
+  unfolding value
+  value-in One at = byte-in at
+  value-in Two at = omega (arith, byte-in at, byte-in (at + 1))
 
   field-gives : {A : Type 0} {P : A → Type 0} (number : ℕ) {value : ℕ → Option A} →
       Listed number → ((k : ℕ) → k < byte-values → IfSome P (value k)) → Gives P (field bytes number value)
@@ -157,12 +162,17 @@ module _ (bytes : List ℕ) (small : All (λ k. k < byte-values) bytes) where
   range-gives : (number low high : ℕ) → Listed number → Gives (λ k. (low ≤ k) × (k ≤ high)) (field bytes number (in-range low high))
   range-gives number low high n = field-gives number n λ k h. range-in low high k
 
-  thread-gives : (version vars : ℕ) → Gives (ThreadIn vars) (thread bytes version vars)
+  initial-gives : (w : Width) → Gives (Value w) (initial-value bytes w)
+  unfolding initial-value
+  initial-gives w = item-gives bytes (value-size w) 6 (listed 6 tt) λ at. of-some (value-in w at)
+
+  thread-gives : (version vars : ℕ) → Gives (ThreadIn (width-of version) vars) (thread bytes version vars)
   unfolding thread instruction
   thread-gives version vars =
       then-gives (range-gives 4 _ _ (listed 4 tt)) λ n most.
       gives-map (λ code h. (omega arith, rw (h .0) (h .1)))
-      (times-gives n (item-gives bytes item-size 4 (listed 4 tt) λ at. instruction-in version vars n _ _ _ (byte-in (at + 3)) (byte bytes at)))
+      (times-gives n
+      (item-gives bytes (item-size (width-of version)) 4 (listed 4 tt) λ at. instruction-in version vars n _ _ _ (value-in (width-of version) (at + 3)) (byte bytes at)))
 
   fields-give : Gives JobIn (fields bytes)
   unfolding fields clause
@@ -172,12 +182,14 @@ module _ (bytes : List ℕ) (small : All (λ k. k < byte-values) bytes) where
       then-gives (field-gives 3 (listed 3 tt) λ k h. capacity-in model k) λ capacity capacity-is.
       then-gives (range-gives 3 _ _ (listed 3 tt)) λ count count-is.
       then-gives (range-gives 3 _ _ (listed 3 tt)) λ vars vars-is.
-      then-gives (times-gives vars (field-gives 6 (listed 6 tt) value-in)) λ initial initial-is.
+      then-gives (times-gives vars (initial-gives (width-of version))) λ initial initial-is.
       then-gives (times-gives count (thread-gives version vars)) λ threads threads-are.
       then-gives (field-gives 5 (listed 5 tt) λ k h. anything _) λ flag _.
       then-gives (range-gives 5 _ _ (listed 5 tt)) λ K K-is.
       then-gives
-      (times-gives K (item-gives bytes item-size 5 (listed 5 tt) λ at. clause-in vars threads _ _ _ (byte-in (at + 3)) (byte bytes at)))
+      (times-gives K
+      (item-gives bytes (item-size (width-of version)) 5 (listed 5 tt) λ at.
+      clause-in (width-of version) vars threads _ _ _ (value-in (width-of version) (at + 3)) (byte bytes at)))
       λ clauses clauses-are.
       ended-gives bytes _
       (record {

@@ -10,9 +10,10 @@ use Rattle.reach.specs.Lists.{All}
 use Rattle.rules.specs.Limits.{most-threads, most-variables, byte-values, first-version, last-version, length-size}
 use Rattle.rules.specs.Job.{Job}
 use Rattle.rules.specs.File.{got, Reader, read-on, _>>=_, done, times, judged, byte, item, field, in-range, model-of, capacity-of, register-ok, zero-ok}
-use Rattle.rules.specs.File.{instruction-of, instruction, thread, flag-of, clause-count-of, fields, length-ok, accepted, refused, decoded, decode}
+use Rattle.rules.specs.File.{instruction-of, instruction, thread, value, initial-value, flag-of, clause-count-of, fields, length-ok, accepted, refused, decoded, decode}
 use Rattle.rules.specs.Accepted.{accepted-in}
 use Rattle.rules.specs.Jobs.{p12}
+use Rattle.rules.specs.declared.Width.the-variants.{One}
 use Rattle.rules.specs.declared.Model.the-variants.{Tso}
 use Rattle.rules.specs.declared.Source.the-variants.{Constant}
 use Rattle.rules.specs.declared.Instr.the-variants.{Load, Store}
@@ -64,9 +65,9 @@ p12-reads :
     × (field p12 3 (capacity-of Tso) 4 ≡ got 1 5)
     × (field p12 3 (in-range 1 most-threads) 5 ≡ got 2 6)
     × (field p12 3 (in-range 1 most-variables) 6 ≡ got 2 7)
-    × (times 2 (field p12 6 some) 7 ≡ got (0 ∷ 0 ∷ []) 9)
+    × (times 2 (initial-value p12 One) 7 ≡ got (0 ∷ 0 ∷ []) 9)
     × (times 2 (thread p12 1 2) 9 ≡ got ((Store (Constant 1) 0 ∷ Load 0 1 ∷ []) ∷ (Store (Constant 1) 1 ∷ Load 0 0 ∷ []) ∷ []) 27)
-unfolding p12 read-on _>>=_ done times judged byte item field in-range model-of capacity-of register-ok zero-ok instruction-of instruction thread
+unfolding p12 read-on _>>=_ done times judged byte item field in-range model-of capacity-of register-ok zero-ok instruction-of instruction thread value initial-value
 p12-reads = (refl, refl, refl, refl, refl, refl, refl)
 
 pub p12-comes : (behind : Bool → ℕ → Reader Job) × ComesTo (field p12 5 flag-of >>= λ flag. field p12 5 clause-count-of >>= behind flag) 27 (fields p12) length-size

@@ -8,7 +8,7 @@ use lib.ListN.{getElem?}
 use Rattle.reach.specs.ListLaws.{all-nth}
 use Rattle.rules.specs.Kinds.{control-of, role-of}
 use Rattle.rules.specs.File.{read-on, _>>=_, done, times, judged, byte, item, field, model-of, in-range, capacity-of, register-ok, zero-ok}
-use Rattle.rules.specs.File.{instruction-of, instruction, thread, flag-of, clause-of, clause, ended, fields, length-ok}
+use Rattle.rules.specs.File.{instruction-of, instruction, thread, value, initial-value, flag-of, clause-of, clause, ended, fields, length-ok}
 use Rattle.rules.specs.File.{decoded, decode, held-job, job-of}
 use Rattle.rules.specs.Fences.{onward, onward-at, successors, role-at, Unfenced, Live, fenced, ChecksTo}
 use Rattle.rules.specs.Jobs.{parked-store}
@@ -42,7 +42,7 @@ parked-code =
     Jmp 5 ∷ Store (Constant 1) 0 ∷ Load 0 1 ∷ Jeq 0 2 1 ∷ Jmp 9 ∷ Store (Constant 1) 0 ∷ Fence ∷ Load 0 1 ∷ Jeq 0 7 1 ∷ Store (Constant 0) 0 ∷ Jmp 5 ∷ []
 
 parked-thread : getElem? (job-of parked-store .threads) 0 ≡ some parked-code
-unfolding parked-code parked-store job-of held-job decode read-on _>>=_ done times judged byte item field model-of in-range capacity-of register-ok zero-ok instruction-of instruction thread flag-of clause-of clause ended fields length-ok decoded
+unfolding parked-code parked-store job-of held-job decode read-on _>>=_ done times judged byte item field model-of in-range capacity-of register-ok zero-ok instruction-of instruction thread value initial-value flag-of clause-of clause ended fields length-ok decoded
 parked-thread = refl
 
 parked-pair : Unfenced parked-code 1 2

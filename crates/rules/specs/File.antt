@@ -1,13 +1,15 @@
--- The job file, and the refusals in their order: 01, "Job file" and "Refusal numbers and their order", and request 7.
+-- The job file, and the refusals in their order: 01, "Job file" and "Refusal numbers and their order", and requests 7 and 10.
 use mathlib.Core.Bool.{Bool, true, false, cond, _&&_}
 use mathlib.Core.List.{List, [], _∷_, _++_}
 use mathlib.Core.Option.{Option, none, some}
 use Prim.Native.Nat.{ℕ, zero, suc, _+_, _*_}
 use lib.Dec.{eqb, ltb, leb}
 use lib.ListN.{length, getD}
-use Rattle.rules.specs.Limits.{most-threads, most-variables, registers-each, longest-thread, most-pending, fewest-clauses, most-clauses, shortest-file, longest-file, byte-values, first-version, last-version, second-version, length-size, item-size}
+use Rattle.rules.specs.Limits.{most-threads, most-variables, registers-each, longest-thread, most-pending, fewest-clauses, most-clauses, shortest-file, longest-file, byte-values, first-version, last-version, second-version, length-size, width-of, value-size, item-size}
 use Rattle.rules.specs.Job.{Job}
 use Rattle.rules.specs.Step.{given}
+use Rattle.rules.specs.declared.Width.{Width}
+use Rattle.rules.specs.declared.Width.the-variants.{One, Two}
 use Rattle.rules.specs.declared.Model.{Model}
 use Rattle.rules.specs.declared.Model.the-variants.{Sc, Tso, Pso}
 use Rattle.rules.specs.declared.Source.the-variants.{Register, Constant}
@@ -61,19 +63,19 @@ capacity-of Sc = in-range 0 0
 capacity-of Tso = in-range 1 most-pending
 capacity-of Pso = in-range 1 most-pending
 
--- "r is 0 to 3, v below V, p from 0 to n"; "Bytes marked 0 must be 0."
+-- "r is 0 to 3, v below V, p from 0 to n"; "Bytes marked 0 must be 0.", of a k of two bytes both
 unfoldable pub register-ok : ℕ → Bool
 register-ok r = ltb r registers-each
 
 unfoldable pub zero-ok : ℕ → Bool
 zero-ok k = eqb k 0
 
--- the table of operations, from number 0 on: "Nine operation numbers have a meaning"
-abbrev pub first-operations : (vars n a b c : ℕ) → List (Option Instr)
-first-operations vars n a b c =
+-- the table of operations, from number 0 on: "Nine operation numbers have a meaning". An ADD is as wide as its file's values.
+abbrev pub first-operations : Width → (vars n a b c : ℕ) → List (Option Instr)
+first-operations w vars n a b c =
     none
     ∷ given (register-ok a && zero-ok b) (Set a c)
-    ∷ given (register-ok a && zero-ok b) (Add a c)
+    ∷ given (register-ok a && zero-ok b) (Add w a c)
     ∷ given (register-ok a && ltb b vars && zero-ok c) (Load a b)
     ∷ given (register-ok a && ltb b vars && zero-ok c) (Store (Register a) b)
     ∷ given (zero-ok a && ltb b vars) (Store (Constant c) b)
@@ -83,13 +85,14 @@ first-operations vars n a b c =
     ∷ given (zero-ok a && leb b n && zero-ok c) (Jmp b)
     ∷ []
 
--- request 7: "Job version 2 adds two operations"; "In a version 1 file operations 10 and 11 are refused by 4 as before."
+-- request 7: "Job version 2 adds two operations"; "In a version 1 file operations 10 and 11 are refused by 4 as before." Request 10, of version 3:
+-- "Operations are version 2's."
 unfoldable pub from-second : ℕ → Bool
 from-second version = leb second-version version
 
 abbrev pub operations : (version vars n a b c : ℕ) → List (Option Instr)
 operations version vars n a b c =
-    first-operations vars n a b c
+    first-operations (width-of version) vars n a b c
     ++ (given (from-second version && register-ok a && ltb b vars) (Cmpx a b c)
     ∷ given (from-second version && zero-ok a && zero-ok b && zero-ok c) Wfence
     ∷ [])
@@ -128,23 +131,35 @@ module _ (bytes : List ℕ) where
   item size number value at =
       cond (leb (at + size) (length bytes)) (judged number at (at + size) (value at)) (fault 6 at)
 
+  -- a value of the file: one byte, or two, "big-endian"
+  unfoldable pub value : Width → ℕ → ℕ
+  value One at = byte at
+  value Two at = byte at * byte-values + byte (at + 1)
+
   -- an item of one byte
   unfoldable pub field : {A : Type 0} → (number : ℕ) → (ℕ → Option A) → Reader A
   field number value = item 1 number (λ at. value (byte at))
 
+  -- "op, a, b, then k"
   unfoldable pub instruction : (version vars n : ℕ) → Reader Instr
-  instruction version vars n = item item-size 4 (λ at. instruction-of version vars n (byte at) (byte (at + 1)) (byte (at + 2)) (byte (at + 3)))
+  instruction version vars n =
+      item (item-size (width-of version)) 4
+      (λ at. instruction-of version vars n (byte at) (byte (at + 1)) (byte (at + 2)) (value (width-of version) (at + 3)))
 
   -- "per thread: n, then instructions"
   unfoldable pub thread : (version vars : ℕ) → Reader (List Instr)
   thread version vars = field 4 (in-range 0 longest-thread) >>= λ n. times n (instruction version vars n)
 
   -- a clause of kind 1 asks for the length of its thread: that of thread a, 0 if there is no such thread
-  unfoldable pub clause : (vars : ℕ) → List (List Instr) → Reader Clause
-  clause vars threads =
-      item item-size 5
+  unfoldable pub clause : Width → (vars : ℕ) → List (List Instr) → Reader Clause
+  clause w vars threads =
+      item (item-size w) 5
       (λ at.
-      clause-of vars (length threads) (length (getD threads (byte (at + 1)) [])) (byte at) (byte (at + 1)) (byte (at + 2)) (byte (at + 3)))
+      clause-of vars (length threads) (length (getD threads (byte (at + 1)) [])) (byte at) (byte (at + 1)) (byte (at + 2)) (value w (at + 3)))
+
+  -- "initial values, each a field | any": no value is refused, only one that is not wholly there
+  unfoldable pub initial-value : Width → Reader ℕ
+  initial-value w = item (value-size w) 6 (λ at. some (value w at))
 
   -- "or bytes are left over": refusal 6 at the first byte left over
   unfoldable pub ended : {A : Type 0} → A → Reader A
@@ -157,12 +172,11 @@ module _ (bytes : List ℕ) where
       field 3 (capacity-of model) >>= λ capacity.
       field 3 (in-range 1 most-threads) >>= λ count.
       field 3 (in-range 1 most-variables) >>= λ vars.
-      -- "initial values, each a field | any": no value is refused, only one that is not there
-      times vars (field 6 some) >>= λ initial.
+      times vars (initial-value (width-of version)) >>= λ initial.
       times count (thread version vars) >>= λ threads.
       field 5 flag-of >>= λ flag.
       field 5 clause-count-of >>= λ K.
-      times K (clause vars threads) >>= λ clauses.
+      times K (clause (width-of version) vars threads) >>= λ clauses.
       ended
       (record {
         version = version;
@@ -177,9 +191,13 @@ module _ (bytes : List ℕ) where
   unfoldable pub fields : Reader Job
   fields = field 2 (in-range first-version last-version) >>= behind-version
 
-  -- "fewer than 3 bytes, more than 597, or length wrong", by request 2 more than 1,109; the length is the "number of bytes that follow", big-endian
+  -- "fewer than 3 bytes, more than 597, or length wrong", by request 2 more than 1,109, by request 10 more than "1,389 bytes where the version byte is 3,
+  -- otherwise 1,109 as before"; the length is the "number of bytes that follow", big-endian
   unfoldable pub length-ok : Bool
-  length-ok = leb shortest-file (length bytes) && leb (length bytes) longest-file && eqb (byte 0 * byte-values + byte 1 + length-size) (length bytes)
+  length-ok =
+      leb shortest-file (length bytes)
+      && leb (length bytes) (longest-file (width-of (byte length-size)))
+      && eqb (byte 0 * byte-values + byte 1 + length-size) (length bytes)
 
 -- what a job's bytes are: a job, or the refusal's number and offset
 pub data Decoded : Type 0 where

@@ -2,7 +2,6 @@
 use mathlib.Core.List.{List, [], _∷_, _++_}
 use Prim.Native.Nat.{ℕ, _+_, _-_, _/_, _%_}
 use lib.ListN.{length, replicate}
-use Rattle.rules.specs.Limits.{all-registers, most-variables, buffer-size}
 use Rattle.rules.specs.Jobs.{one-after-another}
 
 -- STOREK k to v; CMPX (r, v, k); WFENCE; LOAD v into r
@@ -35,13 +34,18 @@ unfoldable pub in-version-two : (model capacity : ℕ) → (initial : List ℕ) 
 in-version-two model capacity initial code =
     filed ((0x02 ∷ model ∷ capacity ∷ 0x01 ∷ length initial ∷ []) ++ initial) (code ∷ []) (0x00 ∷ 0x01 ∷ 0x01 ∷ 0x00 ∷ 0x00 ∷ 0x00 ∷ [])
 
+-- values below 256, two bytes each
+unfoldable pub low-bytes : List ℕ → List ℕ
+low-bytes [] = []
+low-bytes (k ∷ l) = 0 ∷ k ∷ low-bytes l
+
 -- the slot of thread 0 alone at this place: its registers, memory and its buffer's bytes, all as far as they are not 0
 unfoldable pub filled : ℕ → List ℕ → List ℕ
 filled n l = l ++ replicate (n - length l) 0
 
 unfoldable pub alone-slot : (place : ℕ) → (registers memory buffer : List ℕ) → List ℕ
 alone-slot place registers memory buffer =
-    (place ∷ 0 ∷ 0 ∷ 0 ∷ []) ++ filled all-registers registers ++ filled most-variables memory ++ filled buffer-size buffer ++ replicate (buffer-size + buffer-size + buffer-size) 0
+    (place ∷ 0 ∷ 0 ∷ 0 ∷ []) ++ filled 32 (low-bytes registers) ++ filled 16 (low-bytes memory) ++ filled 25 buffer ++ replicate 75 0
 
 -- SC, x is 5: CMPX of register 0, which is 0, then of register 0, which is 5
 unfoldable pub cmpx-twice : List ℕ

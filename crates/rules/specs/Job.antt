@@ -3,8 +3,9 @@ use mathlib.Core.Bool.{Bool}
 use mathlib.Core.List.{List, _++_}
 use Prim.Native.Nat.{ℕ, _-_}
 use lib.ListN.{length, replicate}
-use Rattle.rules.specs.Limits.{most-threads, most-variables, all-registers}
+use Rattle.rules.specs.Limits.{most-threads, most-variables, all-registers, width-of}
 use Rattle.rules.specs.State.{State, empty-buffer}
+use Rattle.rules.specs.declared.Width.{Width}
 use Rattle.rules.specs.declared.Model.{Model}
 use Rattle.rules.specs.declared.Instr.{Instr}
 use Rattle.rules.specs.declared.Clause.{Clause}
@@ -18,6 +19,10 @@ pub record Job : Type 0 where
   pub threads : List (List Instr)
   pub all-empty : Bool
   pub clauses : List Clause
+
+-- request 10: how wide the job's values are
+abbrev pub width : Job → Width
+width j = width-of (j .version)
 
 -- "At the start all places and registers are 0, buffers are empty, variables hold the job's initial values." "What a job doesn't use stays 0."
 unfoldable pub start : Job → State

@@ -3,7 +3,7 @@ use mathlib.Core.Path.{_≡_, refl, sym, ap, subst}
 use mathlib.Core.Bool.{Bool, true, false, cond, not, _&&_}
 use mathlib.Core.List.{List, [], _∷_}
 use mathlib.Core.Option.{Option, none, some}
-use Prim.Native.Nat.{ℕ, zero, suc, _+_, _-_, _*_, _≤_, _<_}
+use Prim.Native.Nat.{ℕ, zero, suc, _+_, _-_, _*_, _%_, _≤_, _<_}
 use native.Mathlib.Omega.{arith}
 use lib.Dec.{eqb, ltb}
 use lib.ListN.{length, getD, replicate, getElem?, length-append, length-set, length-replicate}
@@ -15,7 +15,7 @@ use Rattle.reach.specs.RunLaws.{andThen-some}
 use Rattle.rules.specs.Limits.{most-threads, most-variables, registers-each, all-registers, values, most-pending, step-bound}
 use Rattle.rules.specs.State.{Pending, Buffer, empty-buffer, State, place, register, variable, buffer, pending}
 use Rattle.rules.specs.State.{with-place, with-register, with-variable, with-buffer}
-use Rattle.rules.specs.Job.{Job, start}
+use Rattle.rules.specs.Job.{Job, width, start}
 use Rattle.rules.specs.Kinds.{control-of, wait-of}
 use Rattle.rules.specs.Step.{newest, oldest-to, without-oldest-to, counted, flushed-buffer, marked-buffer, is-empty, has-room, free, may-execute, is-pending-to, is-in-oldest-group, may-flush}
 use Rattle.rules.specs.Step.{carried, stored, grouped, changed, executed, flushed, instruction-at, flush-thread, flush-variable, needs, _then_}
@@ -23,11 +23,13 @@ use Rattle.rules.specs.Step.{may-execute-of, may-flush-of, may, after-ex
 use Rattle.rules.specs.MayLaws.{no-is-not-yes, needs-yes, then-yes, taken-some, execute-passed, flush-passed}
 use Rattle.rules.specs.Machine.{machine}
 use Rattle.rules.specs.Fences.{onward}
-use Rattle.rules.specs.Sound.{SourceIn, InstrIn, CapacityIn, JobIn, StandsBefore, InOrder, MarkIn, BufferIn, WellFormed}
+use Rattle.rules.specs.Sound.{Value, SourceIn, InstrIn, CapacityIn, JobIn, StandsBefore, InOrder, MarkIn, BufferIn, WellFormed}
 use Rattle.rules.specs.BufferLaws.{of-cond, Inserted, inserted-length, inserted-all, removed-all, removed-pairwise, at-end, in-its-place-inserted, oldest-taken, joins-in-order, counted-all, counted-length, counted-in-order, flush-leaves}
 use Rattle.rules.specs.Onward.{place-after-onward, control-in, onward-in}
 use Rattle.rules.specs.declared.May.the-variants.{Yes}
 use Rattle.rules.specs.declared.Reason.the-variants.{NoSuchStep, NothingToFlush, NotTheOldest}
+use Rattle.rules.specs.declared.Width.{Width}
+use Rattle.rules.specs.declared.Width.the-variants.{One, Two}
 use Rattle.rules.specs.declared.Model.{Model}
 use Rattle.rules.specs.declared.Model.the-variants.{Sc, Tso, Pso}
 use Rattle.rules.specs.declared.Source.{Source}
@@ -35,9 +37,14 @@ use Rattle.rules.specs.declared.Source.the-variants.{Register, Constant}
 use Rattle.rules.specs.declared.Instr.{Instr}
 use Rattle.rules.specs.declared.Instr.the-variants.{Set, Add, Load, Store, Fence, Xchg, Jeq, Jmp, Cmpx, Wfence}
 
--- "all values 0 to 255"
-abbrev pub Value : ℕ → Type 0
-Value k = k < values
+-- 0 is a value, and so is a sum modulo the width's values
+pub zero-in : (u : Width) → Value u 0
+zero-in One = omega arith
+zero-in Two = omega arith
+
+sum-in : (u : Width) (n : ℕ) → Value u (n % values u)
+sum-in One n = omega arith
+sum-in Two n = omega arith
 
 -- Buffers.
 
@@ -48,11 +55,11 @@ flush-pending Sc v b h = absurd (no-is-not-yes h)
 flush-pending Tso v b h = needs-yes (is-pending-to v b) _ (then-yes _ _ h .0)
 flush-pending Pso v b h = needs-yes (is-pending-to v b) _ (then-yes _ _ h .0)
 
-newest-value : (v k : ℕ) (b : List Pending) → Value k → All (λ p. Value (p .value)) b → Value (newest v k b)
+newest-value : (u : Width) (v k : ℕ) (b : List Pending) → Value u k → All (λ p. Value u (p .value)) b → Value u (newest v k b)
 unfolding newest
-newest-value v k [] h a = h
-newest-value v k (p ∷ b) h a =
-    newest-value v (cond (eqb (p .variable) v) (p .value) k) b (of-cond Value (eqb (p .variable) v) (λ e. a .0) (λ e. h)) (a .1)
+newest-value u v k [] h a = h
+newest-value u v k (p ∷ b) h a =
+    newest-value u v (cond (eqb (p .variable) v) (p .value) k) b (of-cond (Value u) (eqb (p .variable) v) (λ e. a .0) (λ e. h)) (a .1)
 
 in-order-empty : (m : Model) → InOrder m []
 in-order-empty Sc = refl
@@ -95,7 +102,7 @@ flush-mark-in Pso v b h = λ e.
 -- a pending store's variable and value are in range
 record PendingIn (j : Job) (q : Pending) : Type 0 where
   variable-in : q .variable < length (j .initial)
-  value-in : Value (q .value)
+  value-in : Value (width j) (q .value)
 
 module _ (j : Job) where
   empty-in : BufferIn j empty-buffer
@@ -109,26 +116,26 @@ module _ (j : Job) where
       record {
         count = omega (arith, inserted-length i);
         variables = inserted-all (λ p. p .variable < length (j .initial)) i (q .variable-in) (h .variables);
-        values-in = inserted-all (λ p. Value (p .value)) i (q .value-in) (h .values-in);
+        values-in = inserted-all (λ p. Value (width j) (p .value)) i (q .value-in) (h .values-in);
         order = o;
         mark = unmarked-in (j .model) (record { pending = c; marked = false }) refl;
       }
 
   -- a store is flushed: what went to memory, and what is left
   flushed-in : (v : ℕ) (b : Buffer) → may-flush (j .model) v (b .pending) ≡ Yes → BufferIn j b
-      → (v < length (j .initial)) × Value (oldest-to v (b .pending)) × BufferIn j (flushed-buffer v b)
+      → (v < length (j .initial)) × Value (width j) (oldest-to v (b .pending)) × BufferIn j (flushed-buffer v b)
   unfolding flushed-buffer
   flushed-in v b may h =
       let i = oldest-taken v (b .pending) (flush-pending (j .model) v (b .pending) may) .1 in
       let rest = without-oldest-to v (b .pending) in
       let u = removed-all (λ p. p .variable < length (j .initial)) i (h .variables) in
-      let k = removed-all (λ p. Value (p .value)) i (h .values-in) in (
+      let k = removed-all (λ p. Value (width j) (p .value)) i (h .values-in) in (
         u .0,
         k .0,
         record {
           count = omega (arith, inserted-length i, counted-length rest, h .count);
           variables = counted-all (λ p. p .variable < length (j .initial)) (λ g p e. e) rest (u .1);
-          values-in = counted-all (λ p. Value (p .value)) (λ g p e. e) rest (k .1);
+          values-in = counted-all (λ p. Value (width j) (p .value)) (λ g p e. e) rest (k .1);
           order = flush-in-order (j .model) v (b .pending) may (h .order);
           mark = flush-mark-in (j .model) v b (h .mark);
         },
@@ -159,13 +166,13 @@ module _ (j : Job) (ok : JobIn j) where
 -- States: what may be written to each part.
 
 module _ (j : Job) (x : State) (w : WellFormed j x) where
-  register-value : (t r : ℕ) → Value (register t r x)
+  register-value : (t r : ℕ) → Value (width j) (register t r x)
   unfolding register
-  register-value t r = all-getD Value (x .registers) (registers-each * t + r) 0 (w .registers) (omega arith)
+  register-value t r = all-getD (Value (width j)) (x .registers) (registers-each * t + r) 0 (w .registers) (zero-in (width j))
 
-  variable-value : (v : ℕ) → Value (variable v x)
+  variable-value : (v : ℕ) → Value (width j) (variable v x)
   unfolding variable
-  variable-value v = all-getD Value (x .memory) v 0 (w .memory) (omega arith)
+  variable-value v = all-getD (Value (width j)) (x .memory) v 0 (w .memory) (zero-in (width j))
 
   pub buffer-in : (t : ℕ) → BufferIn j (buffer t x)
   unfolding buffer
@@ -188,7 +195,7 @@ module _ (j : Job) (x : State) (w : WellFormed j x) where
         buffers-unused = w .buffers-unused;
       }
 
-  with-register-keeps : (t r k : ℕ) → t < length (j .threads) → r < registers-each → Value k → WellFormed j (with-register t r k x)
+  with-register-keeps : (t r k : ℕ) → t < length (j .threads) → r < registers-each → Value (width j) k → WellFormed j (with-register t r k x)
   unfolding place register variable buffer with-register
   with-register-keeps t r k used low h =
       record {
@@ -197,7 +204,7 @@ module _ (j : Job) (x : State) (w : WellFormed j x) where
         memory-number = w .memory-number;
         buffers-number = w .buffers-number;
         places = w .places;
-        registers = all-set Value (x .registers) (registers-each * t + r) k (w .registers) h;
+        registers = all-set (Value (width j)) (x .registers) (registers-each * t + r) k (w .registers) h;
         registers-unused =
             λ u s beyond below.
             at-set
@@ -216,7 +223,7 @@ module _ (j : Job) (x : State) (w : WellFormed j x) where
         buffers-unused = w .buffers-unused;
       }
 
-  with-variable-keeps : (v k : ℕ) → v < length (j .initial) → Value k → WellFormed j (with-variable v k x)
+  with-variable-keeps : (v k : ℕ) → v < length (j .initial) → Value (width j) k → WellFormed j (with-variable v k x)
   unfolding place register variable buffer with-variable
   with-variable-keeps v k used h =
       record {
@@ -227,7 +234,7 @@ module _ (j : Job) (x : State) (w : WellFormed j x) where
         places = w .places;
         registers = w .registers;
         registers-unused = w .registers-unused;
-        memory = all-set Value (x .memory) v k (w .memory) h;
+        memory = all-set (Value (width j)) (x .memory) v k (w .memory) h;
         memory-unused =
             at-set (λ u n. length (j .initial) ≤ u → n ≡ 0) (x .memory) v k 0 (w .memory-unused) (λ beyond. absurd (omega arith));
         buffers = w .buffers;
@@ -252,7 +259,7 @@ module _ (j : Job) (x : State) (w : WellFormed j x) where
             at-set (λ u c. length (j .threads) ≤ u → c ≡ empty-buffer) (x .buffers) t b empty-buffer (w .buffers-unused) (λ beyond. absurd (omega arith));
       }
 
-  carried-value : (t : ℕ) (a : Source) → SourceIn a → Value (carried t x a)
+  carried-value : (t : ℕ) (a : Source) → SourceIn (width j) a → Value (width j) (carried t x a)
   unfolding carried
   carried-value t (Register r) h = register-value t r
   carried-value t (Constant k) h = h
@@ -271,14 +278,14 @@ instruction-of-thread j t p = go (j .threads) t
 pub record StandsIn (j : Job) (t p : ℕ) (i : Instr) : Type 0 where
   pub thread : t < length (j .threads)
   pub inside : p < length (getD (j .threads) t [])
-  pub operands : InstrIn (length (j .initial)) (length (getD (j .threads) t [])) i
+  pub operands : InstrIn (width j) (length (j .initial)) (length (getD (j .threads) t [])) i
 
 pub stands : (j : Job) → JobIn j → (t p : ℕ) (i : Instr) → instruction-at j t p ≡ some i → StandsIn j t p i
 unfolding instruction-at
 stands j ok t p i e =
     let r = andThen-some (getElem? (j .threads) t) (λ code. getElem? code p) i e in
     let code-is = at-getD (j .threads) t (r .0) [] (r .1) in
-    let Fit : List Instr → Instr → Type 0 = λ code. InstrIn (length (j .initial)) (length code) in
+    let Fit : List Instr → Instr → Type 0 = λ code. InstrIn (width j) (length (j .initial)) (length code) in
     let fits = all-at (λ code. All (Fit code) code) (j .threads) (ok .instructions) (r .0) (at-in (j .threads) t (r .0) (r .1)) in
     record {
       thread = at-below (j .threads) t (r .0) (r .1);
@@ -294,7 +301,7 @@ module _ (j : Job) (t : ℕ) (used : t < length (j .threads)) (x : State) (w : W
       → WellFormed j (with-buffer t (record { pending = c; marked = false }) x)
   joined-keeps i h room o = with-buffer-keeps j x w t _ used (inserted-in j i (buffer-in j x w t) h room o)
 
-  stored-keeps : (m : Model) → j .model ≡ m → (v k : ℕ) → v < length (j .initial) → Value k
+  stored-keeps : (m : Model) → j .model ≡ m → (v k : ℕ) → v < length (j .initial) → Value (width j) k
       → has-room m (j .capacity) (pending t x) ≡ true → WellFormed j (stored m t v k x)
   unfolding stored has-room
   stored-keeps Sc e v k to value room = with-variable-keeps j x w v k to value
@@ -314,18 +321,19 @@ module _ (j : Job) (t : ℕ) (used : t < length (j .threads)) (x : State) (w : W
   grouped-keeps Pso e = with-buffer-keeps j x w t _ used (marked-in j (buffer t x) e (buffer-in j x w t))
 
   -- CMPX writes or not
-  compared-keeps : (b : Bool) (v k : ℕ) → v < length (j .initial) → Value k → WellFormed j (cond b (with-variable v k x) x)
+  compared-keeps : (b : Bool) (v k : ℕ) → v < length (j .initial) → Value (width j) k → WellFormed j (cond b (with-variable v k x) x)
   compared-keeps true v k to value = with-variable-keeps j x w v k to value
   compared-keeps false v k to value = w
 
-  changed-keeps : (n : ℕ) (i : Instr) → InstrIn (length (j .initial)) n i
+  changed-keeps : (n : ℕ) (i : Instr) → InstrIn (width j) (length (j .initial)) n i
       → free (j .model) (j .capacity) (wait-of i) (pending t x) ≡ Yes → WellFormed j (changed (j .model) t i x)
   unfolding changed wait-of free
   changed-keeps n (Set r k) h f = with-register-keeps j x w t r k used (h .0) (h .1)
-  changed-keeps n (Add r k) h f = with-register-keeps j x w t r _ used (h .0) (omega arith)
+  changed-keeps n (Add u r k) h f =
+      with-register-keeps j x w t r _ used (h .0) (omega (arith, h .2, sum-in u (register t r x + k)))
   changed-keeps n (Load r v) h f =
       with-register-keeps j x w t r _ used (h .0)
-      (newest-value v _ _ (variable-value j x w v) (buffer-in j x w _ .values-in))
+      (newest-value (width j) v _ _ (variable-value j x w v) (buffer-in j x w _ .values-in))
   changed-keeps n (Store a v) h f =
       stored-keeps (j .model) refl v (carried t x a) (h .1) (carried-value j x w t a (h .0)) (needs-yes _ _ f)
   changed-keeps n Fence h f = w
@@ -342,7 +350,7 @@ module _ (j : Job) (t : ℕ) (used : t < length (j .threads)) (x : State) (w : W
   unfolding executed
   executed-keeps i h f =
       let n = length (getD (j .threads) t []) in
-      let places = onward-in n (place t x) (control-of i) (control-in (length (j .initial)) n i (h .operands)) (h .inside) in
+      let places = onward-in n (place t x) (control-of i) (control-in (width j) (length (j .initial)) n i (h .operands)) (h .inside) in
       let goes-on = all-at (λ q. q ≤ n) (onward (place t x) (control-of i)) places _ (place-after-onward t (control-of i) x) in
       with-place-keeps j _ (changed-keeps n i (h .operands) f) t _ goes-on
 
@@ -387,9 +395,9 @@ start-well-formed j ok =
       memory-number = simp (length-append, length-replicate) (omega arith);
       buffers-number = refl;
       places = λ t. omega (arith, getD-padded {A = ℕ} [] most-threads t 0 (omega arith));
-      registers = all-replicate Value all-registers 0 (omega arith);
+      registers = all-replicate (Value (width j)) all-registers 0 (zero-in (width j));
       registers-unused = λ t r h k. getD-padded [] all-registers (registers-each * t + r) 0 (omega arith);
-      memory = all-append Value (j .initial) (replicate spare 0) (ok .initial) (all-replicate Value spare 0 (omega arith));
+      memory = all-append (Value (width j)) (j .initial) (replicate spare 0) (ok .initial) (all-replicate (Value (width j)) spare 0 (zero-in (width j)));
       memory-unused = λ v beyond. getD-padded (j .initial) spare v 0 beyond;
       buffers = all-replicate (BufferIn j) most-threads empty-buffer (empty-in j);
       buffers-unused = λ t beyond. getD-padded [] most-threads t empty-buffer (omega arith);

@@ -11,7 +11,7 @@ use Rattle.rules.specs.declared.Role.the-variants.{Stores, Loads, Fences
 -- where it goes on: "then the next place, unless it jumps"; JEQ "to place p if r = k"; JMP "to place p"
 unfoldable pub control-of : Instr → Control
 control-of (Set r k) = On
-control-of (Add r k) = On
+control-of (Add w r k) = On
 control-of (Load r v) = On
 control-of (Store a v) = On
 control-of Fence = On
@@ -25,7 +25,7 @@ control-of Wfence = On
 -- request 7: CMPX "waits for an empty own buffer", WFENCE "is always enabled"
 unfoldable pub wait-of : Instr → Wait
 wait-of (Set r k) = Never
-wait-of (Add r k) = Never
+wait-of (Add w r k) = Never
 wait-of (Load r v) = Never
 wait-of (Store a v) = ForRoom
 wait-of Fence = UntilEmpty
@@ -39,7 +39,7 @@ wait-of Wfence = Never
 -- Request 7: "CMPX counts as XCHG (a fence, neither store nor load); WFENCE isn't a fence, nor a store or load."
 unfoldable pub role-of : Instr → Role
 role-of (Set r k) = Other
-role-of (Add r k) = Other
+role-of (Add w r k) = Other
 role-of (Load r v) = Loads
 role-of (Store a v) = Stores
 role-of Fence = Fences

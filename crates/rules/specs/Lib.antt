@@ -28,6 +28,8 @@ pub mod Jobs
 pub mod GroupJobs
 pub mod Claims
 pub mod GroupPins
+pub mod WidthJobs
+pub mod WidthPins
 pub mod Pins
 pub mod Worked
 pub mod DeadCode

@@ -14,6 +14,7 @@ use Rattle.rules.specs.Kinds.{control-of}
 use Rattle.rules.specs.Step.{place-after}
 use Rattle.rules.specs.Fences.{onward}
 use Rattle.rules.specs.Sound.{InstrIn}
+use Rattle.rules.specs.declared.Width.{Width}
 use Rattle.rules.specs.declared.Instr.{Instr}
 use Rattle.rules.specs.declared.Instr.the-variants.{Set, Add, Load, Store, Fence, Xchg, Jeq, Jmp, Cmpx, Wfence}
 use Rattle.rules.specs.declared.Control.{Control}
@@ -43,18 +44,18 @@ ControlIn n On = Unit {0}
 ControlIn n (To p) = p ≤ n
 ControlIn n (ToIf r k p) = (r < registers-each) × (p ≤ n)
 
-pub control-in : (vars n : ℕ) (i : Instr) → InstrIn vars n i → ControlIn n (control-of i)
+pub control-in : (u : Width) (vars n : ℕ) (i : Instr) → InstrIn u vars n i → ControlIn n (control-of i)
 unfolding control-of
-control-in vars n (Set r k) h = tt
-control-in vars n (Add r k) h = tt
-control-in vars n (Load r v) h = tt
-control-in vars n (Store a v) h = tt
-control-in vars n Fence h = tt
-control-in vars n (Xchg r v) h = tt
-control-in vars n (Jeq r p k) h = (h .0, h .1)
-control-in vars n (Jmp p) h = h
-control-in vars n (Cmpx r v k) h = tt
-control-in vars n Wfence h = tt
+control-in u vars n (Set r k) h = tt
+control-in u vars n (Add w r k) h = tt
+control-in u vars n (Load r v) h = tt
+control-in u vars n (Store a v) h = tt
+control-in u vars n Fence h = tt
+control-in u vars n (Xchg r v) h = tt
+control-in u vars n (Jeq r p k) h = (h .0, h .1)
+control-in u vars n (Jmp p) h = h
+control-in u vars n (Cmpx r v k) h = tt
+control-in u vars n Wfence h = tt
 
 -- every successor of a place is one of the thread's places, or its end
 pub onward-in : (n p : ℕ) (c : Control) → ControlIn n c → p < n → All (λ q. q ≤ n) (onward p c)

@@ -6,7 +6,7 @@ use Prim.Native.Nat.{ℕ, zero, suc, _+_, _^_}
 use lib.ListN.{set, take, replicate}
 use Rattle.reach.specs.Replay.{reaches, falls-short, stuck}
 use Rattle.rules.specs.Limits.{longest-thread, longest-file, slot-size, step-bound, most-slots}
-use Rattle.rules.specs.Slot.{pair-bytes, buffer-bytes, buffers-bytes, slot-bytes}
+use Rattle.rules.specs.Slot.{word-bytes, entry-bytes, buffer-bytes, buffers-bytes, slot-bytes}
 use Rattle.rules.specs.State.{State, empty-buffer, register}
 use Rattle.rules.specs.Fences.{fenced, open-at}
 use Rattle.rules.specs.Jobs.{p1, p2, p3, p4, p5, p6, p9, p10, p12, p9-sc, p9-sc-drained, p2-drained, no-instruction, waits-apart, three-to-one, own-newest, fence-waits, exchange, jump-over, either-order, oldest-first, stored-register}
@@ -15,7 +15,9 @@ use Rattle.rules.specs.Jobs.{in-memory, other-registers, widest, sixty-f
 use Rattle.rules.specs.Jobs.{two-lengths, lengths-turned, nine-stores, behind-a-jump, down-to-a-store, parked-store, two-stores-open, two-threads-open, last-thread-open, last-of-all, third-drains, highest-values, round-to-zero, each-reason, each-reason-sc, each-reason-pso}
 use Rattle.rules.specs.Jobs.{set-0, add-0, load-x, store-r, store-x, fence, xchg-x, jeq-to, jmp-to, alone}
 use Rattle.rules.specs.GroupPins.{group-pins}
+use Rattle.rules.specs.WidthPins.{width-pins}
 use Rattle.rules.specs.Claims.{search-reaches, search-never, search-unknown, slots-follow, links-are, fences-say, replay-says, slot-after, enabled-after, withheld-after, refuses, Case, case}
+use Rattle.rules.specs.declared.Width.the-variants.{One, Two}
 use Rattle.rules.specs.declared.Reason.the-variants.{NoSuchStep, ThreadEnded, BufferFull, BufferNotEmpty, NothingToFlush, NotTheOldest}
 
 -- P1's states up to its goal, in the order of slots, each by its first shortest schedule
@@ -269,17 +271,17 @@ pins =
     -- the last of all steps
     ∷ case 640 last-of-all (enabled-after (0x03 ∷ 0x03 ∷ 0x03 ∷ 0x03 ∷ 0x03 ∷ 0x03 ∷ []) (2 ^ 35))
     -- the slot of the start: what a job does not use is 0
-    ∷ case 640 p1 (slot-after [] (replicate 96 0))
-    -- initial values stand from byte 20 on
-    ∷ case 640 widest (slot-after [] (replicate 20 0 ++ (1 ∷ 2 ∷ 3 ∷ 4 ∷ 5 ∷ 6 ∷ 7 ∷ 8 ∷ []) ++ replicate 68 0))
-    -- thread 0's place, and its buffer from byte 28 on: count, variable, value
-    ∷ case 640 p1 (slot-after (0x00 ∷ []) ((1 ∷ []) ++ replicate 27 0 ++ (1 ∷ 0 ∷ 1 ∷ []) ++ replicate 65 0))
-    -- thread 1's, 17 bytes on
-    ∷ case 640 p1 (slot-after (0x01 ∷ []) ((0 ∷ 1 ∷ []) ++ replicate 43 0 ++ (1 ∷ 1 ∷ 1 ∷ []) ++ replicate 48 0))
-    -- TSO: pairs oldest first
-    ∷ case 640 waits-apart (slot-after (0x00 ∷ 0x00 ∷ []) ((2 ∷ []) ++ replicate 27 0 ++ (2 ∷ 1 ∷ 1 ∷ 0 ∷ 1 ∷ []) ++ replicate 63 0))
-    -- PSO: pairs by variable number
-    ∷ case 640 (set waits-apart 3 0x02) (slot-after (0x00 ∷ 0x00 ∷ []) ((2 ∷ []) ++ replicate 27 0 ++ (2 ∷ 0 ∷ 1 ∷ 1 ∷ 1 ∷ []) ++ replicate 63 0))
+    ∷ case 640 p1 (slot-after [] (replicate 152 0))
+    -- initial values stand from byte 36 on, two bytes each
+    ∷ case 640 widest (slot-after [] (replicate 36 0 ++ (0 ∷ 1 ∷ 0 ∷ 2 ∷ 0 ∷ 3 ∷ 0 ∷ 4 ∷ 0 ∷ 5 ∷ 0 ∷ 6 ∷ 0 ∷ 7 ∷ 0 ∷ 8 ∷ []) ++ replicate 100 0))
+    -- thread 0's place, and its buffer from byte 52 on: count, variable, value
+    ∷ case 640 p1 (slot-after (0x00 ∷ []) ((1 ∷ []) ++ replicate 51 0 ++ (1 ∷ 0 ∷ 0 ∷ 1 ∷ []) ++ replicate 96 0))
+    -- thread 1's, 25 bytes on
+    ∷ case 640 p1 (slot-after (0x01 ∷ []) ((0 ∷ 1 ∷ []) ++ replicate 75 0 ++ (1 ∷ 1 ∷ 0 ∷ 1 ∷ []) ++ replicate 71 0))
+    -- TSO: entries oldest first
+    ∷ case 640 waits-apart (slot-after (0x00 ∷ 0x00 ∷ []) ((2 ∷ []) ++ replicate 51 0 ++ (2 ∷ 1 ∷ 0 ∷ 1 ∷ 0 ∷ 0 ∷ 1 ∷ []) ++ replicate 93 0))
+    -- PSO: entries by variable number
+    ∷ case 640 (set waits-apart 3 0x02) (slot-after (0x00 ∷ 0x00 ∷ []) ((2 ∷ []) ++ replicate 51 0 ++ (2 ∷ 0 ∷ 0 ∷ 1 ∷ 1 ∷ 0 ∷ 1 ∷ []) ++ replicate 93 0))
     -- fence check: XCHG between is a fence
     ∷ case 640 exchange-between (fences-say fenced)
     -- each operation that is no store, no load, no move past a fence
@@ -365,7 +367,7 @@ pins =
     -- n 64 is accepted, and a clause of place 64
     ∷ case 640 sixty-four (search-reaches 65 (replicate 64 0x00))
     -- the slot has place 64
-    ∷ case 640 sixty-four (slot-after (replicate 64 0x00) ((64 ∷ []) ++ replicate 95 0))
+    ∷ case 640 sixty-four (slot-after (replicate 64 0x00) ((64 ∷ []) ++ replicate 151 0))
     -- place 64 of thread 2 is its end, and not thread 3's place 0
     ∷ case 640 fullest (replay-says (replicate 65 0x02) (stuck 64 ThreadEnded))
     -- JMP to place 64
@@ -638,24 +640,29 @@ pins =
     ∷ case 640 (set (set (take 43 p1) 1 41) 41 0x04) (refuses 6 41)
     -- a bad clause before one cut off wins
     ∷ case 640 (set (set (take 43 p1) 1 41) 29 0x04) (refuses 5 29)
-    -- and those of request 7
-    ∷ group-pins
+    -- and those of requests 7 and 10
+    ∷ (group-pins ++ width-pins)
 
--- The numbers that 01 and request 2 say outright.
-pub numbers-are : (longest-thread ≡ 64) × (longest-file ≡ 1109) × (slot-size ≡ 96) × (step-bound ≡ 36) × (most-slots ≡ 65536)
-numbers-are = (refl, refl, refl, refl, refl)
+-- The numbers that 01 and requests 2 and 10 say outright.
+pub numbers-are : (longest-thread ≡ 64) × (longest-file One ≡ 1109) × (longest-file Two ≡ 1389) × (slot-size ≡ 152) × (step-bound ≡ 36) × (most-slots ≡ 65536)
+numbers-are = (refl, refl, refl, refl, refl, refl)
 
 -- a state with another number in each part
 unfoldable pub each-apart : State
 each-apart =
     record {
       places = 1 ∷ 2 ∷ 3 ∷ 4 ∷ [];
-      registers = 10 ∷ 11 ∷ 12 ∷ 13 ∷ 14 ∷ 15 ∷ 16 ∷ 17 ∷ 18 ∷ 19 ∷ 20 ∷ 21 ∷ 22 ∷ 23 ∷ 24 ∷ 25 ∷ [];
-      memory = 30 ∷ 31 ∷ 32 ∷ 33 ∷ 34 ∷ 35 ∷ 36 ∷ 37 ∷ [];
+      registers = 0x100A ∷ 11 ∷ 12 ∷ 13 ∷ 14 ∷ 15 ∷ 16 ∷ 17 ∷ 18 ∷ 19 ∷ 20 ∷ 21 ∷ 22 ∷ 23 ∷ 24 ∷ 25 ∷ [];
+      memory = 30 ∷ 31 ∷ 32 ∷ 33 ∷ 34 ∷ 35 ∷ 36 ∷ 0xFF25 ∷ [];
       buffers = replicate 4 empty-buffer;
     }
 
--- "bytes 0-3 places; 4-19 registers, thread by thread; 20-27 memory"
-pub parts-are : (register 1 2 each-apart ≡ 16) × (take 28 (slot-bytes each-apart) ≡ each-apart .places ++ each-apart .registers ++ each-apart .memory)
-unfolding each-apart register slot-bytes buffers-bytes buffer-bytes pair-bytes
+-- "4 places, 32 register bytes, 16 memory bytes", registers thread by thread, values big-endian
+pub parts-are :
+    (register 1 2 each-apart ≡ 16)
+    × (take 52 (slot-bytes each-apart)
+    ≡ (1 ∷ 2 ∷ 3 ∷ 4 ∷ [])
+    ++ (0x10 ∷ 0x0A ∷ 0 ∷ 11 ∷ 0 ∷ 12 ∷ 0 ∷ 13 ∷ 0 ∷ 14 ∷ 0 ∷ 15 ∷ 0 ∷ 16 ∷ 0 ∷ 17 ∷ 0 ∷ 18 ∷ 0 ∷ 19 ∷ 0 ∷ 20 ∷ 0 ∷ 21 ∷ 0 ∷ 22 ∷ 0 ∷ 23 ∷ 0 ∷ 24 ∷ 0 ∷ 25 ∷ [])
+    ++ (0 ∷ 30 ∷ 0 ∷ 31 ∷ 0 ∷ 32 ∷ 0 ∷ 33 ∷ 0 ∷ 34 ∷ 0 ∷ 35 ∷ 0 ∷ 36 ∷ 0xFF ∷ 0x25 ∷ []))
+unfolding each-apart register slot-bytes buffers-bytes buffer-bytes entry-bytes word-bytes
 parts-are = (refl, refl)

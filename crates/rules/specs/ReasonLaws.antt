@@ -151,7 +151,7 @@ store-waits i h = ap wait-of (h .2)
 waits-store : (i : Instr) → wait-of i ≡ ForRoom → Stores i
 unfolding wait-of wait-number
 waits-store (Set r k) e = absurd (omega (arith, ap wait-number e))
-waits-store (Add r k) e = absurd (omega (arith, ap wait-number e))
+waits-store (Add w r k) e = absurd (omega (arith, ap wait-number e))
 waits-store (Load r v) e = absurd (omega (arith, ap wait-number e))
 waits-store (Store a v) e = (a, v, refl)
 waits-store Fence e = absurd (omega (arith, ap wait-number e))
@@ -171,7 +171,7 @@ drain-waits i (inr (inr (r, v, k, e))) = ap wait-of e
 waits-drain : (i : Instr) → wait-of i ≡ UntilEmpty → Drains i
 unfolding wait-of wait-number
 waits-drain (Set r k) e = absurd (omega (arith, ap wait-number e))
-waits-drain (Add r k) e = absurd (omega (arith, ap wait-number e))
+waits-drain (Add w r k) e = absurd (omega (arith, ap wait-number e))
 waits-drain (Load r v) e = absurd (omega (arith, ap wait-number e))
 waits-drain (Store a v) e = absurd (omega (arith, ap wait-number e))
 waits-drain Fence e = inl refl

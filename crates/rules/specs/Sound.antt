@@ -7,7 +7,8 @@ use lib.ListN.{length, getD}
 use Rattle.reach.specs.Lists.{All, Pairwise}
 use Rattle.rules.specs.Limits.{most-threads, most-variables, registers-each, all-registers, values, longest-thread, most-pending, fewest-clauses, most-clauses}
 use Rattle.rules.specs.State.{Pending, Buffer, empty-buffer, State, place, register, variable, buffer}
-use Rattle.rules.specs.Job.{Job}
+use Rattle.rules.specs.Job.{Job, width}
+use Rattle.rules.specs.declared.Width.{Width}
 use Rattle.rules.specs.declared.Model.{Model}
 use Rattle.rules.specs.declared.Model.the-variants.{Sc, Tso, Pso}
 use Rattle.rules.specs.declared.Source.{Source}
@@ -17,27 +18,31 @@ use Rattle.rules.specs.declared.Instr.the-variants.{Set, Add, Load, Stor
 use Rattle.rules.specs.declared.Clause.{Clause}
 use Rattle.rules.specs.declared.Clause.the-variants.{PlaceIs, RegisterIs, MemoryIs}
 
--- "Here r is 0 to 3, v below V, p from 0 to n"; constants are values
-abbrev pub SourceIn : Source → Type 0
-SourceIn (Register r) = r < registers-each
-SourceIn (Constant k) = k < values
+-- a value of this width
+abbrev pub Value : Width → ℕ → Type 0
+Value w k = k < values w
 
-abbrev pub InstrIn : (vars n : ℕ) → Instr → Type 0
-InstrIn vars n (Set r k) = (r < registers-each) × (k < values)
-InstrIn vars n (Add r k) = (r < registers-each) × (k < values)
-InstrIn vars n (Load r v) = (r < registers-each) × (v < vars)
-InstrIn vars n (Store a v) = SourceIn a × (v < vars)
-InstrIn vars n Fence = Unit {0}
-InstrIn vars n (Xchg r v) = (r < registers-each) × (v < vars)
-InstrIn vars n (Jeq r p k) = (r < registers-each) × (p ≤ n) × (k < values)
-InstrIn vars n (Jmp p) = p ≤ n
-InstrIn vars n (Cmpx r v k) = (r < registers-each) × (v < vars) × (k < values)
-InstrIn vars n Wfence = Unit {0}
+-- "Here r is 0 to 3, v below V, p from 0 to n"; constants are values, and a sum is as wide as they
+abbrev pub SourceIn : Width → Source → Type 0
+SourceIn w (Register r) = r < registers-each
+SourceIn w (Constant k) = Value w k
 
-abbrev pub ClauseIn : (vars : ℕ) → List (List Instr) → Clause → Type 0
-ClauseIn vars threads (PlaceIs t p) = (t < length threads) × (p ≤ length (getD threads t []))
-ClauseIn vars threads (RegisterIs t r k) = (t < length threads) × (r < registers-each) × (k < values)
-ClauseIn vars threads (MemoryIs v k) = (v < vars) × (k < values)
+abbrev pub InstrIn : Width → (vars n : ℕ) → Instr → Type 0
+InstrIn w vars n (Set r k) = (r < registers-each) × Value w k
+InstrIn w vars n (Add u r k) = (r < registers-each) × Value w k × (values u ≡ values w)
+InstrIn w vars n (Load r v) = (r < registers-each) × (v < vars)
+InstrIn w vars n (Store a v) = SourceIn w a × (v < vars)
+InstrIn w vars n Fence = Unit {0}
+InstrIn w vars n (Xchg r v) = (r < registers-each) × (v < vars)
+InstrIn w vars n (Jeq r p k) = (r < registers-each) × (p ≤ n) × Value w k
+InstrIn w vars n (Jmp p) = p ≤ n
+InstrIn w vars n (Cmpx r v k) = (r < registers-each) × (v < vars) × Value w k
+InstrIn w vars n Wfence = Unit {0}
+
+abbrev pub ClauseIn : Width → (vars : ℕ) → List (List Instr) → Clause → Type 0
+ClauseIn w vars threads (PlaceIs t p) = (t < length threads) × (p ≤ length (getD threads t []))
+ClauseIn w vars threads (RegisterIs t r k) = (t < length threads) × (r < registers-each) × Value w k
+ClauseIn w vars threads (MemoryIs v k) = (v < vars) × Value w k
 
 -- "SC (model 0, C must be 0)"; else 1 to 8
 abbrev pub CapacityIn : Model → ℕ → Type 0
@@ -52,12 +57,12 @@ pub record JobIn (j : Job) : Type 0 where
   pub threads-most : length (j .threads) ≤ most-threads
   pub variables-least : 1 ≤ length (j .initial)
   pub variables-most : length (j .initial) ≤ most-variables
-  pub initial : All (λ k. k < values) (j .initial)
+  pub initial : All (Value (width j)) (j .initial)
   pub lengths : All (λ code. length code ≤ longest-thread) (j .threads)
-  pub instructions : All (λ code. All (InstrIn (length (j .initial)) (length code)) code) (j .threads)
+  pub instructions : All (λ code. All (InstrIn (width j) (length (j .initial)) (length code)) code) (j .threads)
   pub clauses-least : fewest-clauses ≤ length (j .clauses)
   pub clauses-most : length (j .clauses) ≤ most-clauses
-  pub clauses : All (ClauseIn (length (j .initial)) (j .threads)) (j .clauses)
+  pub clauses : All (ClauseIn (width j) (length (j .initial)) (j .threads)) (j .clauses)
 
 -- "Pairs stand by group, then by variable"
 abbrev pub StandsBefore : Pending → Pending → Type 0
@@ -83,7 +88,7 @@ MarkIn Pso b = b .pending ≡ [] → b .marked ≡ false
 pub record BufferIn (j : Job) (b : Buffer) : Type 0 where
   pub count : length (b .pending) ≤ j .capacity
   pub variables : All (λ p. p .variable < length (j .initial)) (b .pending)
-  pub values-in : All (λ p. p .value < values) (b .pending)
+  pub values-in : All (λ p. Value (width j) (p .value)) (b .pending)
   pub order : InOrder (j .model) (b .pending)
   pub mark : MarkIn (j .model) b
 
@@ -94,9 +99,9 @@ pub record WellFormed (j : Job) (x : State) : Type 0 where
   pub memory-number : length (x .memory) ≡ most-variables
   pub buffers-number : length (x .buffers) ≡ most-threads
   pub places : (t : ℕ) → place t x ≤ length (getD (j .threads) t [])
-  pub registers : All (λ k. k < values) (x .registers)
+  pub registers : All (Value (width j)) (x .registers)
   pub registers-unused : (t r : ℕ) → length (j .threads) ≤ t → r < registers-each → register t r x ≡ 0
-  pub memory : All (λ k. k < values) (x .memory)
+  pub memory : All (Value (width j)) (x .memory)
   pub memory-unused : (v : ℕ) → length (j .initial) ≤ v → variable v x ≡ 0
   pub buffers : All (BufferIn j) (x .buffers)
   pub buffers-unused : (t : ℕ) → length (j .threads) ≤ t → buffer t x ≡ empty-buffer

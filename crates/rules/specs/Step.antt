@@ -1,4 +1,4 @@
--- One step of the machine under each model, and why it can't be taken: 01, "The machine" and "Memory rules", and requests 5 and 7. Rules i to vii are those of source document 003, of a TSO buffer; under SC and PSO 01 changes iv and v.
+-- One step of the machine under each model, and why it can't be taken: 01, "The machine" and "Memory rules", and requests 5, 7 and 10. Rules i to vii are those of source document 003, of a TSO buffer; under SC and PSO 01 changes iv and v.
 use mathlib.Core.Bool.{Bool, true, false, cond, not, _&&_, _||_}
 use mathlib.Core.List.{List, [], _∷_, _++_}
 use mathlib.Core.Option.{Option, none, some}
@@ -177,8 +177,8 @@ grouped Pso t x = with-buffer t (marked-buffer (buffer t x)) x
 unfoldable pub changed : Model → (t : ℕ) → Instr → State → State
 -- SET: "register r becomes k": rule vi
 changed m t (Set r k) x = with-register t r k x
--- ADD: "register r becomes (r + k) mod 256": rules iii and vi
-changed m t (Add r k) x = with-register t r ((register t r x + k) % values) x
+-- ADD: "register r becomes (r + k) mod 256", in version 3 "mod 65,536": rules iii and vi
+changed m t (Add w r k) x = with-register t r ((register t r x + k) % values w) x
 -- LOAD: "r takes variable v": rules i, ii and vi
 changed m t (Load r v) x = with-register t r (newest v (variable v x) (pending t x)) x
 -- STORE, STOREK: "store register r to v", "store k to v": rules iii and iv, bounded by C

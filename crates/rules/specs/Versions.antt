@@ -9,13 +9,14 @@ use Prim.Native.Nat.{ℕ, zero, suc, _+_, _≤_}
 use native.Mathlib.Omega.{arith}
 use lib.Dec.{eqb, ltb, leb}
 use lib.ListN.{length, getD}
-use Rattle.rules.specs.Limits.{first-version, second-version, most-threads, most-variables, longest-thread, length-size, shortest-file, item-size}
+use Rattle.rules.specs.Limits.{first-version, second-version, most-threads, most-variables, longest-thread, length-size, shortest-file, width-of, value-size, item-size, longest-file}
 use Rattle.rules.specs.Job.{Job, start}
 use Rattle.rules.specs.Step.{given, instruction-at, has-thread, has-variable, may-execute-of, may-flush-of, may, after, step}
 use Rattle.rules.specs.Goal.{goal}
 use Rattle.rules.specs.Machine.{explained, machine}
 use Rattle.rules.specs.File.{Read, got, fault, Reader, read-on, _>>=_, done, times, judged, in-range, model-of, capacity-of, byte, item, field}
-use Rattle.rules.specs.File.{register-ok, zero-ok, first-operations, from-second, operations, instruction-of, instruction, thread, clause, ended, behind-version, fields, flag-of, clause-count-of, length-ok, Decoded, accepted, refused, decoded, decode}
+use Rattle.rules.specs.File.{register-ok, zero-ok, first-operations, from-second, operations, instruction-of, value, instruction, thread, clause, initial-value, ended, behind-version, fields, flag-of, clause-count-of, length-ok, Decoded, accepted, refused, decoded, decode}
+use Rattle.rules.specs.declared.Width.the-variants.{One}
 use Rattle.rules.specs.declared.Instr.{Instr}
 use Rattle.rules.specs.declared.Instr.the-variants.{Set, Add, Load, Store, Fence, Xchg, Jeq, Jmp, Cmpx, Wfence}
 
@@ -44,7 +45,7 @@ machine-alike version j = refl
 -- what version 2 adds
 abbrev pub IsNew : Instr → Type 0
 IsNew (Set r k) = ⊥
-IsNew (Add r k) = ⊥
+IsNew (Add w r k) = ⊥
 IsNew (Load r v) = ⊥
 IsNew (Store a v) = ⊥
 IsNew Fence = ⊥
@@ -197,7 +198,7 @@ operations-judged : (vars n op a b c : ℕ)
 unfolding instruction-of from-second
 operations-judged vars n op a b c =
     row-judged IsAdded IsNew (operations first-version vars n a b c) (operations second-version vars n a b c)
-    (rows-behind IsAdded IsNew (first-operations vars n a b c) (none ∷ none ∷ [])
+    (rows-behind IsAdded IsNew (first-operations One vars n a b c) (none ∷ none ∷ [])
     (given (register-ok a && ltb b vars) (Cmpx a b c) ∷ given (zero-ok a && zero-ok b && zero-ok c) Wfence ∷ [])
     (judged-new (inl refl) (register-ok a && ltb b vars) (Cmpx a b c) tt, (judged-new (inr refl) (zero-ok a && zero-ok b && zero-ok c) Wfence tt, tt)))
     op
@@ -261,9 +262,9 @@ module _ (one two : List ℕ) (long : length one ≡ length two) (alike : (at : 
         (λ at low. subst (λ k. Judged (Barred number at) New (value (byte one at)) (value k)) (behind at low) (judged-alike (value (byte one at))))
 
   instruction-follows : (vars n : ℕ) → Follows Barred same IsNew (instruction one first-version vars n) (instruction two second-version vars n)
-  unfolding instruction
+  unfolding instruction value
   instruction-follows vars n =
-      item-follows item-size 4
+      item-follows (item-size One) 4
       (λ at low.
       rw (behind at low, behind (at + 1) (omega arith), behind (at + 2) (omega arith), behind (at + 3) (omega arith))
       (judged-where (λ added. (refl, added)) (operations-judged vars n (byte two at) (byte two (at + 1)) (byte two (at + 2)) (byte two (at + 3)))))
@@ -274,13 +275,17 @@ module _ (one two : List ℕ) (long : length one ≡ length two) (alike : (at : 
       then-follows {New = λ n. ⊥} (field-follows 4 (in-range 0 longest-thread)) (λ n. times-follows n (instruction-follows vars n)) (λ n new. absurd new)
 
   -- the goal: nothing of it is new, but the job may be
-  clause-follows : (vars : ℕ) (threads : List (List Instr)) → Follows Barred same (λ c. ⊥) (clause one vars threads) (clause two vars threads)
-  unfolding clause
+  clause-follows : (vars : ℕ) (threads : List (List Instr)) → Follows Barred same (λ c. ⊥) (clause one One vars threads) (clause two One vars threads)
+  unfolding clause value
   clause-follows vars threads =
-      item-follows item-size 5
+      item-follows (item-size One) 5
       (λ at low.
       rw (behind at low, behind (at + 1) (omega arith), behind (at + 2) (omega arith), behind (at + 3) (omega arith))
       (judged-alike _))
+
+  initial-follows : Follows Barred same (λ k. ⊥) (initial-value one One) (initial-value two One)
+  unfolding initial-value value
+  initial-follows = item-follows (value-size One) 6 (λ at low. rw (behind at low) (judged-alike _))
 
   ended-follows : (j : Job) → Follows Barred (in-version second-version) UsesNew (ended one j) (ended two (in-version second-version j))
   unfolding ended
@@ -308,7 +313,7 @@ module _ (one two : List ℕ) (long : length one ≡ length two) (alike : (at : 
       (λ model. then-follows {New = Nothing} (field-follows 3 (capacity-of model))
       (λ capacity. then-follows {New = Nothing} (field-follows 3 (in-range 1 most-threads))
       (λ count. then-follows {New = Nothing} (field-follows 3 (in-range 1 most-variables))
-      (λ vars. then-follows {New = Some Nothing} (times-follows vars (field-follows 6 some))
+      (λ vars. then-follows {New = Some Nothing} (times-follows vars initial-follows)
       (λ initial. then-follows (times-follows count (thread-follows vars))
       (λ threads. then-follows {New = Nothing} (field-follows 5 flag-of)
       (λ flag. then-follows {New = Nothing} (field-follows 5 clause-count-of)
@@ -340,7 +345,7 @@ module _ (one two : List ℕ) (long : length one ≡ length two) (alike : (at : 
 
     length-alike : length-ok one ≡ length-ok two
     unfolding length-ok
-    length-alike = rw (long, alike 0 (λ e. omega (arith, e)), alike 1 (λ e. omega (arith, e)))
+    length-alike = rw (is-first, is-second, long, alike 0 (λ e. omega (arith, e)), alike 1 (λ e. omega (arith, e)))
 
     -- Every pair of files: the second holds the first's job but for the version, or is refused with the same number and offset; or the first bars it.
     pub two-files : (decode two ≡ re-versioned second-version (decode one)) ⊎ FirstBars one two

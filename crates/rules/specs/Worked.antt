@@ -14,7 +14,7 @@ use Rattle.rules.specs.Step.{newest, stands-before, in-its-place, newest
 use Rattle.rules.specs.Step.{is-oldest-to, may-flush, carried, stored, changed, place-after, executed, flushed, instruction-at}
 use Rattle.rules.specs.Step.{flush-thread, flush-variable, has-thread, has-variable, may-execute-of, may-flush-of, may, after-execute, after, step, enabled-below, enabled}
 use Rattle.rules.specs.Goal.{every, clause-holds, goal}
-use Rattle.rules.specs.File.{read-on, _>>=_, done, times, judged, byte, item, field, model-of, in-range, capacity-of, register-ok, zero-ok, from-second}
+use Rattle.rules.specs.File.{read-on, _>>=_, done, times, judged, byte, item, field, model-of, in-range, capacity-of, register-ok, zero-ok, from-second, value, initial-value}
 use Rattle.rules.specs.File.{instruction-of, instruction, thread, flag-of, clause-of, clause, ended, fields, length-ok}
 use Rattle.rules.specs.File.{decoded, decode}
 use Rattle.rules.specs.Same.{same-list, same-pending, same-mark, same-buffer, same-state}
@@ -24,11 +24,13 @@ use Rattle.rules.specs.FenceCheck.{open-threads, fence-answer, fence-che
 use Rattle.rules.specs.Jobs.{p1, p2, p3, p4, p5, p6, p7, p8, p9, p10, p12, p12-drained, p9-sc, p9-sc-drained, p2-drained, no-instruction, waits-apart, three-to-one, own-newest, fence-waits, exchange, jump-over, either-order, oldest-first, stored-register, exchange-between, ends-and-moves, back-around, past-a-load, next-of-two, over-a-fence}
 use Rattle.rules.specs.Jobs.{in-memory, other-registers, widest, eight-sets, sixty-four-sets, sixty-four, sixty-five, next-door, fifty-one, jumps-down, down-the-stairs, four-clauses, full-thread, fullest, too-long, cut, cut-unknown, left-over}
 use Rattle.rules.specs.Jobs.{two-lengths, lengths-turned, nine-stores, behind-a-jump, down-to-a-store, parked-store, two-stores-open, two-threads-open, last-thread-open, last-of-all, third-drains, highest-values, round-to-zero, each-reason, each-reason-sc, each-reason-pso}
-use Rattle.rules.specs.Slot.{pair-bytes, buffer-bytes, buffers-bytes, slot-bytes}
+use Rattle.rules.specs.Slot.{word-bytes, entry-bytes, buffer-bytes, buffers-bytes, slot-bytes}
 use Rattle.rules.specs.Jobs.{set-0, add-0, load-x, store-r, store-x, fence, xchg-x, jeq-to, jmp-to, one-after-another, alone}
 use Rattle.rules.specs.Claims.{search-reaches, search-never, search-unknown, fences-say, replay-says, refuses, Case, case, CaseHolds, answer-reaches, answer-never, answer-unknown, same-fenced, same-replayed, same-withheld, same-end, in-turn-test, after-test, claim-test, refusal-test, decoded-test, case-test, all-right}
 use Rattle.rules.specs.GroupPins.{group-pins}
-use Rattle.rules.specs.GroupJobs.{store, cmpx, wfence, load, threads-of, filed, in-version-two, filled, alone-slot}
+use Rattle.rules.specs.WidthPins.{wide-slot, width-pins}
+use Rattle.rules.specs.WidthJobs.{wide, in-version-three, wide-sums, wide-stores, wide-jumps, wide-compares, wide-goal, one-wide, wide-thread, wide-fullest, blank-file}
+use Rattle.rules.specs.GroupJobs.{store, cmpx, wfence, load, threads-of, filed, in-version-two, low-bytes, filled, alone-slot}
 use Rattle.rules.specs.GroupJobs.{cmpx-twice, cmpx-zero, cmpx-of-others, cmpx-waits, cmpx-race, wfence-first, wfence-twice, wfence-between, wfence-outlives, wfence-sorted, three-groups, eight-groups, message-passing, wfence-no-fence, cmpx-fence, cmpx-no-store, cmpx-no-load, wfence-no-load, wfence-no-store}
 use Rattle.rules.specs.Pins.{p1-schedules, p1-links, count-up, no-steps, pins}
 use Rattle.rules.specs.declared.Reason.the-variants.{NoSuchStep, BufferFull}
@@ -82,7 +84,7 @@ table =
 
 -- both lists, computed
 computed : T (every case-test table) × T (every case-test pins)
-unfolding every case-test table pins group-pins store cmpx wfence load threads-of filed in-version-two filled alone-slot cmpx-twice cmpx-zero cmpx-of-others cmpx-waits cmpx-race wfence-first wfence-twice wfence-between wfence-outlives wfence-sorted three-groups eight-groups message-passing wfence-no-fence cmpx-fence cmpx-no-store cmpx-no-load wfence-no-load wfence-no-store p1-schedules p1-links p9-sc p9-sc-drained p2-drained no-instruction same-end in-turn-test after-test two-lengths lengths-turned nine-stores behind-a-jump down-to-a-store parked-store set-0 add-0 load-x store-r store-x fence xchg-x jeq-to jmp-to one-after-another alone two-stores-open two-threads-open last-thread-open last-of-all third-drains highest-values round-to-zero enabled-below enabled pair-bytes buffer-bytes buffers-bytes slot-bytes p1 p2 p3 p4 p5 p6 p7 p8 p9 p10 p12 p12-drained waits-apart three-to-one own-newest fence-waits exchange jump-over either-order oldest-first stored-register exchange-between ends-and-moves back-around past-a-load next-of-two over-a-fence in-memory other-registers widest eight-sets sixty-four-sets sixty-four sixty-five next-door fifty-one jumps-down down-the-stairs four-clauses full-thread fullest too-long cut cut-unknown left-over decoded-test claim-test refusal-test answer-reaches answer-never answer-unknown same-fenced same-replayed place register variable buffer with-place with-register with-variable with-buffer same-list same-pending same-mark same-buffer same-state start control-of wait-of newest stands-before in-its-place newest-group joined-group lowered counted flushed-buffer marked-buffer grouped is-in-oldest-group oldest-to without-oldest-to is-empty has-room free may-execute is-pending-to is-oldest-to may-flush carried stored changed place-after executed flushed instruction-at flush-thread flush-variable has-thread has-variable may-execute-of may-flush-of may after-execute after step same-withheld count-up no-steps each-reason each-reason-sc each-reason-pso clause-holds goal start-row offer-of offer offers-below offers known goal-row keep keep-new put-unless put put-all outcome by-goal by-rest by-room levels find decode read-on _>>=_ done times judged byte item field model-of in-range capacity-of register-ok zero-ok from-second instruction-of instruction thread flag-of clause-of clause ended fields length-ok decoded onward onward-at successors role-of role-at role-number same-role passes move targets-below landings found leads or-else first-below store-test load-test open-loads open-stores open-threads fence-answer fence-check at-end replay-from replay
+unfolding every case-test table pins group-pins width-pins wide-slot wide in-version-three wide-sums wide-stores wide-jumps wide-compares wide-goal one-wide wide-thread wide-fullest blank-file store cmpx wfence load threads-of filed in-version-two low-bytes filled alone-slot cmpx-twice cmpx-zero cmpx-of-others cmpx-waits cmpx-race wfence-first wfence-twice wfence-between wfence-outlives wfence-sorted three-groups eight-groups message-passing wfence-no-fence cmpx-fence cmpx-no-store cmpx-no-load wfence-no-load wfence-no-store p1-schedules p1-links p9-sc p9-sc-drained p2-drained no-instruction same-end in-turn-test after-test two-lengths lengths-turned nine-stores behind-a-jump down-to-a-store parked-store set-0 add-0 load-x store-r store-x fence xchg-x jeq-to jmp-to one-after-another alone two-stores-open two-threads-open last-thread-open last-of-all third-drains highest-values round-to-zero enabled-below enabled word-bytes entry-bytes buffer-bytes buffers-bytes slot-bytes p1 p2 p3 p4 p5 p6 p7 p8 p9 p10 p12 p12-drained waits-apart three-to-one own-newest fence-waits exchange jump-over either-order oldest-first stored-register exchange-between ends-and-moves back-around past-a-load next-of-two over-a-fence in-memory other-registers widest eight-sets sixty-four-sets sixty-four sixty-five next-door fifty-one jumps-down down-the-stairs four-clauses full-thread fullest too-long cut cut-unknown left-over decoded-test claim-test refusal-test answer-reaches answer-never answer-unknown same-fenced same-replayed place register variable buffer with-place with-register with-variable with-buffer same-list same-pending same-mark same-buffer same-state start control-of wait-of newest stands-before in-its-place newest-group joined-group lowered counted flushed-buffer marked-buffer grouped is-in-oldest-group oldest-to without-oldest-to is-empty has-room free may-execute is-pending-to is-oldest-to may-flush carried stored changed place-after executed flushed instruction-at flush-thread flush-variable has-thread has-variable may-execute-of may-flush-of may after-execute after step same-withheld count-up no-steps each-reason each-reason-sc each-reason-pso clause-holds goal start-row offer-of offer offers-below offers known goal-row keep keep-new put-unless put put-all outcome by-goal by-rest by-room levels find decode read-on _>>=_ done times judged byte item field model-of in-range capacity-of register-ok zero-ok from-second value initial-value instruction-of instruction thread flag-of clause-of clause ended fields length-ok decoded onward onward-at successors role-of role-at role-number same-role passes move targets-below landings found leads or-else first-below store-test load-test open-loads open-stores open-threads fence-answer fence-check at-end replay-from replay
 computed = (tt, tt)
 
 -- every case of the list holds

@@ -1,17 +1,14 @@
 // The machine and the job file of 01 as definitions. The types that programs and definitions share are declared here;
-// the rules stand in specs/. The numbers are those of specs/Limits, under the same names.
+// the rules stand in specs/. The numbers are those of specs/Limits, under the same names, as far as code needs them.
 
-// "T threads (1 to 4), V shared variables (1 to 8), 4 registers a thread, all values 0 to 255"
+// "T threads (1 to 4), V shared variables (1 to 8), 4 registers a thread"
 pub const MOST_THREADS: u8 = 4;
 
 pub const MOST_VARIABLES: u8 = 8;
 
 pub const REGISTERS_EACH: u8 = 4;
 
-// The values of a register or a variable.
-pub const VALUES: usize = 256;
-
-// The values of a byte of the file.
+// The values of a byte.
 pub const BYTE_VALUES: usize = 256;
 
 // n is 0 to 64: request 2, "Threads are too short".
@@ -25,13 +22,16 @@ pub const FEWEST_CLAUSES: u8 = 1;
 
 pub const MOST_CLAUSES: u8 = 16;
 
-// "version | 1 | 1"; request 7, "Job version 2 adds two operations", "refusal 2 now means neither version".
+// "version | 1 | 1"; requests 7 and 10: "refusal 2 now means none of the three".
 pub const FIRST_VERSION: u8 = 1;
 
 // The version that brought CMPX and WFENCE.
 pub const SECOND_VERSION: u8 = 2;
 
-pub const LAST_VERSION: u8 = SECOND_VERSION;
+// The version of sixteen-bit values: request 10.
+pub const THIRD_VERSION: u8 = 3;
+
+pub const LAST_VERSION: u8 = THIRD_VERSION;
 
 // "Length first", then the version: "fewer than 3 bytes" are none of a job.
 pub const LENGTH_SIZE: usize = 2;
@@ -41,21 +41,22 @@ pub const SHORTEST_FILE: usize = LENGTH_SIZE + 1;
 // Length, version, and model, C, T, V: the initial values stand behind them.
 pub const HEAD_SIZE: usize = SHORTEST_FILE + 4;
 
-// "Instructions are four bytes", and so are clauses.
-pub const ITEM_SIZE: usize = 4;
-
 // The places and the buffers of a state, a thread each, and its variables: as lengths of arrays.
 pub const THREADS: usize = MOST_THREADS as usize;
 
 pub const VARIABLES: usize = MOST_VARIABLES as usize;
 
-// "The longest file becomes 1,109 bytes": the head, the variables, the threads, flag, K, the clauses.
+// "The longest file of version 3 is 1,389 bytes", and no other version's is longer: the head, the variables, the threads, flag, K, the clauses.
+pub const WORD_SIZE: usize = 2;
+
+pub const LONGEST_ITEM: usize = 3 + WORD_SIZE;
+
 pub const LONGEST_FILE: usize = HEAD_SIZE
-    + VARIABLES
-    + THREADS * (1 + ITEM_SIZE * LONGEST_THREAD as usize)
+    + WORD_SIZE * VARIABLES
+    + THREADS * (1 + LONGEST_ITEM * LONGEST_THREAD as usize)
     + 1
     + 1
-    + ITEM_SIZE * MOST_CLAUSES as usize;
+    + LONGEST_ITEM * MOST_CLAUSES as usize;
 
 pub const ALL_REGISTERS: usize = THREADS * REGISTERS_EACH as usize;
 
@@ -64,15 +65,28 @@ pub const GROUP_UNIT: u8 = 16;
 
 pub const MARK_UNIT: u8 = 128;
 
-// "Slot layout: bytes 0-3 places; 4-19 registers, thread by thread; 20-27 memory; then 17 bytes a thread: count, and eight pairs"
-pub const PAIRS_SIZE: usize = 2 * MOST_PENDING as usize;
+// Request 10: "The slot becomes 152 bytes for all versions: 4 places, 32 register bytes, 16 memory bytes, and 25 bytes a thread with three-byte
+// pending entries".
+pub const REGISTERS_SIZE: usize = WORD_SIZE * ALL_REGISTERS;
 
-pub const BUFFER_SIZE: usize = 1 + PAIRS_SIZE;
+pub const MEMORY_SIZE: usize = WORD_SIZE * VARIABLES;
 
-pub const SLOT_SIZE: usize = THREADS + ALL_REGISTERS + VARIABLES + THREADS * BUFFER_SIZE;
+pub const ENTRY_SIZE: usize = 1 + WORD_SIZE;
 
-// "N is the smallest of table bytes / 96 rounded down, links, schedule bytes, and 65,536"
+pub const ENTRIES_SIZE: usize = ENTRY_SIZE * MOST_PENDING as usize;
+
+pub const BUFFER_SIZE: usize = 1 + ENTRIES_SIZE;
+
+pub const SLOT_SIZE: usize = THREADS + REGISTERS_SIZE + MEMORY_SIZE + THREADS * BUFFER_SIZE;
+
+// "N is the smallest of table bytes / 152 rounded down, links, schedule bytes, and 65,536"
 pub const MOST_SLOTS: usize = 65536;
+
+// How many bytes a value has, in a job and in its file: request 10. One byte has 256 values, two have 65,536.
+pub enum Width {
+    One,
+    Two,
+}
 
 // The memory models: 01, "Memory rules".
 pub enum Model {
@@ -84,20 +98,21 @@ pub enum Model {
 // What a store carries: a register's value or a constant.
 pub enum Source {
     Register(u8),
-    Constant(u8),
+    Constant(u16),
 }
 
-// An instruction, decoded: 01, "The machine", and request 7. Operands stand in the order of the job file; a store has what it carries and its variable.
+// An instruction, decoded: 01, "The machine", and requests 7 and 10. Operands stand in the order of the job file; a store has what it carries and its
+// variable, an ADD first how wide its sum is.
 pub enum Instr {
-    Set(u8, u8),
-    Add(u8, u8),
+    Set(u8, u16),
+    Add(Width, u8, u16),
     Load(u8, u8),
     Store(Source, u8),
     Fence,
     Xchg(u8, u8),
-    Jeq(u8, u8, u8),
+    Jeq(u8, u8, u16),
     Jmp(u8),
-    Cmpx(u8, u8, u8),
+    Cmpx(u8, u8, u16),
     Wfence,
 }
 
@@ -105,7 +120,7 @@ pub enum Instr {
 pub enum Control {
     On,
     To(u8),
-    ToIf(u8, u8, u8),
+    ToIf(u8, u16, u8),
 }
 
 // What an instruction waits for in its thread's own buffer: nothing; room for one store more; that it is empty.
@@ -148,6 +163,6 @@ pub enum Passing {
 // A clause of a goal: thread and place; thread, register and value; variable and value.
 pub enum Clause {
     PlaceIs(u8, u8),
-    RegisterIs(u8, u8, u8),
-    MemoryIs(u8, u8),
+    RegisterIs(u8, u8, u16),
+    MemoryIs(u8, u16),
 }

@@ -20,7 +20,7 @@ words (Reachable d states) = answer-words (reachable d states)
 words (Unreachable states) = answer-words (unreachable states)
 words (Unknown slots) = answer-words (unknown slots)
 
--- "N is the smallest of table bytes / 96 rounded down, links, schedule bytes, and 65,536"
+-- "N is the smallest of table bytes / 152 rounded down, links, schedule bytes, and 65,536"
 abbrev pub slots-of : Lent → ℕ
 slots-of m = slots-lent slot-size most-slots m
 

@@ -33,22 +33,22 @@ HasSlots r =
 
 unfoldable pub rooms : List Room
 rooms =
-    -- the table is the smallest: 4 slots and 95 bytes more
-    room 479 9 9 4
+    -- the table is the smallest: 4 slots and 151 bytes more
+    room 759 9 9 4
     -- exactly 4 slots
-    ∷ room 384 9 9 4
+    ∷ room 608 9 9 4
     -- the links are
-    ∷ room 960 5 9 5
+    ∷ room 1520 5 9 5
     -- the schedule is
-    ∷ room 960 9 6 6
+    ∷ room 1520 9 6 6
     -- 65,536 is
-    ∷ room 6400000 66000 66001 65536
+    ∷ room 10000000 66000 66001 65536
     -- the bench program's
-    ∷ room 61440 640 640 640
+    ∷ room 60800 400 400 400
     -- no slot, by each of the three
-    ∷ room 95 9 9 0
-    ∷ room 960 0 9 0
-    ∷ room 960 9 0 0
+    ∷ room 151 9 9 0
+    ∷ room 1520 0 9 0
+    ∷ room 1520 9 0 0
     ∷ []
 
 pub rooms-are : All HasSlots rooms
@@ -108,5 +108,5 @@ pub words-are :
     (words (Refused 4 10) ≡ 0 ∷ 4 ∷ 10 ∷ 0 ∷ [])
     × (words (Reachable 4 22) ≡ 1 ∷ 4 ∷ 22 ∷ 0 ∷ [])
     × (words (Unreachable 13) ≡ 2 ∷ 13 ∷ 0 ∷ 0 ∷ [])
-    × (words (Unknown 640) ≡ 3 ∷ 640 ∷ 0 ∷ 0 ∷ [])
+    × (words (Unknown 400) ≡ 3 ∷ 400 ∷ 0 ∷ 0 ∷ [])
 words-are = (refl, refl, refl, refl)

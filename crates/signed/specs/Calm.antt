@@ -9,7 +9,7 @@ use lib.ListN.{length, replicate, getElem?}
 use Rattle.reach.specs.ListLaws.{getD-padded}
 use Rattle.rules.specs.Limits.{most-threads}
 use Rattle.rules.specs.State.{Pending, Buffer, empty-buffer, State, place, buffer, pending}
-use Rattle.rules.specs.Job.{Job, start}
+use Rattle.rules.specs.Job.{Job, width, start}
 use Rattle.rules.specs.Kinds.{wait-of}
 use Rattle.rules.specs.Step.{has-room, free, is-empty, may-flush, executed, next}
 use Rattle.rules.specs.Sound.{JobIn}
@@ -57,7 +57,7 @@ module _ (j : Job) (ok : JobIn j) where
 
     pub sc-does : Changed t (after i (x .memory) (own t x)) (wrote i (own t x) (x .memory)) x (executed Sc t i x)
     sc-does =
-        executed-does t low x (k .sized) (length (j .initial)) (length (code j t)) i (instr-in j ok t (place t x) i e) (λ h. calm-pending k t)
+        executed-does t low x (k .sized) (width j) (length (j .initial)) (length (code j t)) i (instr-in j ok t (place t x) i e) (λ h. calm-pending k t)
 
   -- no flush, so every step is a thread's
   pub sc-ran : (s : ℕ) (x y : State) → next (under Sc 0 j) s x ≡ some y → Ran (under Sc 0 j) s x y

@@ -43,7 +43,7 @@ compared-kept false v k x = refl
 places-kept : (m : Model) (t : ℕ) (i : Instr) (x : State) → changed m t i x .places ≡ x .places
 unfolding changed stored grouped with-register with-variable with-buffer
 places-kept m t (Set r k) x = refl
-places-kept m t (Add r k) x = refl
+places-kept m t (Add w r k) x = refl
 places-kept m t (Load r v) x = refl
 places-kept Sc t (Store a v) x = refl
 places-kept Tso t (Store a v) x = refl

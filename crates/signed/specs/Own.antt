@@ -17,6 +17,7 @@ use Rattle.rules.specs.Step.{newest, carried, stored, grouped, changed, place-a
 use Rattle.rules.specs.Fences.{onward}
 use Rattle.rules.specs.Sound.{SourceIn, InstrIn}
 use Rattle.rules.specs.Onward.{branch-onward, ControlIn, control-in}
+use Rattle.rules.specs.declared.Width.{Width}
 use Rattle.rules.specs.declared.Model.the-variants.{Sc}
 use Rattle.rules.specs.declared.Source.{Source}
 use Rattle.rules.specs.declared.Source.the-variants.{Register, Constant}
@@ -66,7 +67,7 @@ goes-onward (ToIf r k p) o = branch-onward (o .place) p (eqb (own-register r o) 
 -- what an instruction makes of the registers, if loads take what memory holds
 unfoldable pub altered : Instr → List ℕ → OwnPart → OwnPart
 altered (Set r k) m o = with-own-register r k o
-altered (Add r k) m o = with-own-register r ((own-register r o + k) % values) o
+altered (Add w r k) m o = with-own-register r ((own-register r o + k) % values w) o
 altered (Load r v) m o = with-own-register r (getD m v 0) o
 altered (Store a v) m o = o
 altered Fence m o = o
@@ -82,7 +83,7 @@ after i m o = at-place (goes-on (control-of i) o) (altered i m o)
 -- what an instruction makes of memory, if stores go straight to it
 unfoldable pub wrote : Instr → OwnPart → List ℕ → List ℕ
 wrote (Set r k) o m = m
-wrote (Add r k) o m = m
+wrote (Add w r k) o m = m
 wrote (Load r v) o m = m
 wrote (Store a v) o m = set m v (carries o a)
 wrote Fence o m = m
@@ -122,10 +123,10 @@ module _ (t : ℕ) (low : t < most-threads) (x : State) (z : Sized x) where
   unfolding own own-register register
   register-own r h = rw (getD-take, getD-drop)
 
-  pub carried-own : (a : Source) → SourceIn a → carried t x a ≡ carries (own t x) a
+  pub carried-own : (u : Width) (a : Source) → SourceIn u a → carried t x a ≡ carries (own t x) a
   unfolding carried carries
-  carried-own (Register r) h = register-own r h
-  carried-own (Constant k) h = refl
+  carried-own u (Register r) h = register-own r h
+  carried-own u (Constant k) h = refl
 
 module _ (t u : ℕ) (other : u ≢ t) (x : State) where
   other-with-place : (p : ℕ) → own u (with-place t p x) ≡ own u x
@@ -201,25 +202,25 @@ module _ (t : ℕ) (low : t < most-threads) (x : State) (z : Sized x) where
   compared false v k = unchanged t low x z
 
   -- under SC this becomes of the own part's registers and of memory, and no more; a load must not have a store of its own pending
-  changed-does : (vars n : ℕ) (i : Instr) → InstrIn vars n i → (role-of i ≡ Loads → pending t x ≡ [])
+  changed-does : (u : Width) (vars n : ℕ) (i : Instr) → InstrIn u vars n i → (role-of i ≡ Loads → pending t x ≡ [])
       → Changed t (altered i (x .memory) (own t x)) (wrote i (own t x) (x .memory)) x (changed Sc t i x)
   unfolding changed altered wrote stored grouped newest variable role-of
-  changed-does vars n (Set r k) h f = changed-register t low x (unchanged t low x z) r k (h .0)
-  changed-does vars n (Add r k) h f =
-      rw (← register-own t low x z r (h .0)) (changed-register t low x (unchanged t low x z) r ((register t r x + k) % values) (h .0))
-  changed-does vars n (Load r v) h f = rw (f refl) (changed-register t low x (unchanged t low x z) r (variable v x) (h .0))
-  changed-does vars n (Store a v) h f =
-      rw (← carried-own t low x z a (h .0)) (changed-variable t low x (unchanged t low x z) v (carried t x a))
-  changed-does vars n Fence h f = unchanged t low x z
-  changed-does vars n (Xchg r v) h f =
+  changed-does u vars n (Set r k) h f = changed-register t low x (unchanged t low x z) r k (h .0)
+  changed-does u vars n (Add w r k) h f =
+      rw (← register-own t low x z r (h .0)) (changed-register t low x (unchanged t low x z) r ((register t r x + k) % values w) (h .0))
+  changed-does u vars n (Load r v) h f = rw (f refl) (changed-register t low x (unchanged t low x z) r (variable v x) (h .0))
+  changed-does u vars n (Store a v) h f =
+      rw (← carried-own t low x z u a (h .0)) (changed-variable t low x (unchanged t low x z) v (carried t x a))
+  changed-does u vars n Fence h f = unchanged t low x z
+  changed-does u vars n (Xchg r v) h f =
       rw (← register-own t low x z r (h .0))
       (changed-register t low x (changed-variable t low x (unchanged t low x z) v (register t r x)) r (variable v x) (h .0))
-  changed-does vars n (Jeq r p k) h f = unchanged t low x z
-  changed-does vars n (Jmp p) h f = unchanged t low x z
-  changed-does vars n (Cmpx r v k) h f =
+  changed-does u vars n (Jeq r p k) h f = unchanged t low x z
+  changed-does u vars n (Jmp p) h f = unchanged t low x z
+  changed-does u vars n (Cmpx r v k) h f =
       rw (← register-own t low x z r (h .0))
       (changed-register t low x (compared (eqb (variable v x) (register t r x)) v k) r (variable v x) (h .0))
-  changed-does vars n Wfence h f = unchanged t low x z
+  changed-does u vars n Wfence h f = unchanged t low x z
 
   place-own : (n : ℕ) (c : Control) → ControlIn n c → place-after t c x ≡ goes-on c (own t x)
   unfolding place-after goes-on own
@@ -227,8 +228,8 @@ module _ (t : ℕ) (low : t < most-threads) (x : State) (z : Sized x) where
   place-own n (To p) h = refl
   place-own n (ToIf r k p) h = rw (register-own t low x z r (h .0))
 
-  pub executed-does : (vars n : ℕ) (i : Instr) → InstrIn vars n i → (role-of i ≡ Loads → pending t x ≡ [])
+  pub executed-does : (u : Width) (vars n : ℕ) (i : Instr) → InstrIn u vars n i → (role-of i ≡ Loads → pending t x ≡ [])
       → Changed t (after i (x .memory) (own t x)) (wrote i (own t x) (x .memory)) x (executed Sc t i x)
   unfolding executed after
-  executed-does vars n i h f =
-      rw (← place-own n (control-of i) (control-in vars n i h)) (changed-place t low x (changed-does vars n i h f) (place-after t (control-of i) x))
+  executed-does u vars n i h f =
+      rw (← place-own n (control-of i) (control-in u vars n i h)) (changed-place t low x (changed-does u vars n i h f) (place-after t (control-of i) x))

@@ -34,7 +34,7 @@ pub data ByRole : Instr → Type 0 where
 pub by-role : (i : Instr) → ByRole i
 unfolding role-of wait-of changed grouped altered wrote
 by-role (Set r k) = is-quiet (record { role = refl; blind = λ m n o. refl; silent = λ o m. refl }) (λ t x. refl)
-by-role (Add r k) = is-quiet (record { role = refl; blind = λ m n o. refl; silent = λ o m. refl }) (λ t x. refl)
+by-role (Add w r k) = is-quiet (record { role = refl; blind = λ m n o. refl; silent = λ o m. refl }) (λ t x. refl)
 by-role (Load r v) = is-load refl (λ t x. refl)
 by-role (Store a v) = is-store a v
 by-role Fence = is-wait refl (λ t x. refl)

@@ -13,7 +13,7 @@ use Rattle.reach.specs.System.{System, run}
 use Rattle.reach.specs.RunLaws.{andThen-some, run-append}
 use Rattle.rules.specs.Limits.{most-threads, most-variables, step-bound}
 use Rattle.rules.specs.State.{State, place, pending}
-use Rattle.rules.specs.Job.{Job}
+use Rattle.rules.specs.Job.{Job, width}
 use Rattle.rules.specs.Kinds.{wait-of}
 use Rattle.rules.specs.Step.{free, may-execute, may-flush, executed, flushed, instruction-at, flush-thread, flush-variable, may, after-execute, after, step, next}
 use Rattle.rules.specs.MayLaws.{no-is-not-yes, taken-some, may-executes, may-flushes, may-flushes-to, none-from-bound, execute-of-thread, flush-of-variable, execute-passed, flush-passed}
@@ -52,7 +52,7 @@ pub record Flushed (j : Job) (t v : ℕ) (x y : State) : Type 0 where
   pub is : flushed t v x ≡ y
 
 module _ (j : Job) where
-  pub instr-in : JobIn j → (t p : ℕ) (i : Instr) → getElem? (code j t) p ≡ some i → InstrIn (length (j .initial)) (length (code j t)) i
+  pub instr-in : JobIn j → (t p : ℕ) (i : Instr) → getElem? (code j t) p ≡ some i → InstrIn (width j) (length (j .initial)) (length (code j t)) i
   instr-in ok t p i e = stands j ok t p i (instruction-of-thread j t p ∙ e) .operands
 
   pub next-runs : (t : ℕ) (x : State) (i : Instr) → t < most-threads → getElem? (code j t) (place t x) ≡ some i

@@ -14,7 +14,7 @@ use Rattle.reach.specs.System.{run}
 use Rattle.reach.specs.RunLaws.{andThen-some}
 use Rattle.rules.specs.Limits.{most-threads}
 use Rattle.rules.specs.State.{Pending, Buffer, empty-buffer, State, place, buffer, pending, with-variable, with-buffer}
-use Rattle.rules.specs.Job.{Job}
+use Rattle.rules.specs.Job.{Job, width}
 use Rattle.rules.specs.Kinds.{control-of, wait-of, role-of}
 use Rattle.rules.specs.Step.{counted, flushed-buffer, oldest-to, without-oldest-to, is-empty, needs, free, is-pending-to, is-oldest-to, may-flush, carried, stored, changed, place-after, executed, flushed, next}
 use Rattle.rules.specs.Machine.{machine}
@@ -78,7 +78,7 @@ module _ (j : Job) (ok : JobIn j) (t : ℕ) (low : t < most-threads) (x y : Stat
         let behind : Behind (code j t) (own t x) (own t y) [] = subst (Behind (code j t) (own t x) (own t y)) e (d .threads t) in
         let stands : getElem? (code j t) (place t x) ≡ some i = rw (ap (λ (z : OwnPart). z .place) behind) at in
         let c = sc-does j ok t x i low (d .calm) stands in
-        let c′ = executed-does t low y (d .sized) _ _ i (instr-in j ok t (place t y) i at) (λ h. e) in
+        let c′ = executed-does t low y (d .sized) _ _ _ i (instr-in j ok t (place t y) i at) (λ h. e) in
         let kept = buffers-kept y (executed Sc t i y) (c′ .buffers) t in
         let now-empty : pending t (executed Sc t i y) ≡ [] = ap (λ (b : Buffer). b .pending) kept ∙ e in
         let same : own t (executed Sc t i x) ≡ own t (executed Sc t i y) = c .mine ∙ ap₂ (after i) (d .memory) behind ∙ sym (c′ .mine) in
@@ -100,7 +100,7 @@ module _ (j : Job) (ok : JobIn j) (t : ℕ) (low : t < most-threads) (x y : Stat
     quiet-step : Quiet i → (p : Pending) (b : List Pending) → pending t y ≡ p ∷ b → Follows j x (executed Sc t i y)
     unfolding own
     quiet-step q p b e =
-        let c = executed-does t low y (d .sized) _ _ i (instr-in j ok t (place t y) i at) (quiet-no-load q) in
+        let c = executed-does t low y (d .sized) _ _ _ i (instr-in j ok t (place t y) i at) (quiet-no-load q) in
         let kept = buffers-kept y (executed Sc t i y) (c .buffers) t in
         let still : pending t (executed Sc t i y) ≡ p ∷ b = ap (λ (b : Buffer). b .pending) kept ∙ e in
         record {
@@ -144,7 +144,7 @@ module _ (j : Job) (ok : JobIn j) (t : ℕ) (low : t < most-threads) (x y : Stat
       let sized : Sized z = sized-with-buffer t low b y (d .sized) in
       let c : Changed t (onwards (own t y)) (y .memory) z y′ = changed-onwards t low z sized in
       let is-made : p ≡ made (own t y) a v =
-      ap (λ (k : ℕ). record { group = 0; variable = v; value = k }) (carried-own t low y (d .sized) a (instr-in j ok t (place t y) (Store a v) at .0)) in
+      ap (λ (k : ℕ). record { group = 0; variable = v; value = k }) (carried-own t low y (d .sized) (width j) a (instr-in j ok t (place t y) (Store a v) at .0)) in
       let now : buffer t y′ ≡ b = buffers-kept z y′ (c .buffers) t ∙ buffer-same t low b y (d .sized) in
       let longer : pending t y′ ≡ pending t y ++ (made (own t y) a v ∷ []) =
       ap (λ (b : Buffer). b .pending) now ∙ ap (λ (q : Pending). pending t y ++ (q ∷ [])) is-made in

@@ -8,7 +8,7 @@ use lib.ListN.{length, getD, set, take, length-append}
 use lib.Seq.{take-suc-set}
 use Rattle.reach.specs.Lists.{All}
 use Rattle.reach.specs.ListLaws.{all-append}
-use Rattle.rules.specs.Limits.{buffer-size, pairs-size}
+use Rattle.rules.specs.Limits.{buffer-size, entries-size}
 use Rattle.span.specs.Span.{bytes-at, laid}
 use Rattle.span.specs.SpanLaws.{laid-then, bytes-at-add, bytes-at-number, one-more}
 use Rattle.buffer.specs.declared.Buf.{Buf}
@@ -31,13 +31,13 @@ module _ (table : List ℕ) (at : ℕ) (l : List Buf) (full : All FullBuffer l) 
   laid-buffer room = rw (buffers-bytes-suc l t h) (laid-then table at front next (buffer-size * t) number room)
 
 pub read-buffer-bytes : (table : List ℕ) (at : ℕ) (slots : List ℕ) → at + buffer-size ≤ length table
-    → slots ≡ bytes-at table (at + 1) pairs-size → ReadBuffer table at (record { count = getD table at 0; slots = slots })
+    → slots ≡ bytes-at table (at + 1) entries-size → ReadBuffer table at (record { count = getD table at 0; slots = slots })
 unfolding buffer-bytes
 read-buffer-bytes table at slots h e =
-    let pairs : slots ≡ bytes-at table (suc at) pairs-size = e ∙ rw add-one in
+    let entries : slots ≡ bytes-at table (suc at) entries-size = e ∙ rw add-one in
     record {
-      bytes = ap (_∷_ (getD table at 0)) pairs ∙ sym (one-more table at pairs-size (omega arith));
-      full = ap length e ∙ bytes-at-number table (at + 1) pairs-size (omega arith);
+      bytes = ap (_∷_ (getD table at 0)) entries ∙ sym (one-more table at entries-size (omega arith));
+      full = ap length e ∙ bytes-at-number table (at + 1) entries-size (omega arith);
     }
 
 pub read-more : (table : List ℕ) (at : ℕ) (l : List Buf) (t : ℕ) (b : Buf) → t < length l

@@ -9,7 +9,7 @@ use denote.Shadow.{shadow}
 use denote.Array.{each}
 use denote.Struct.Declared.{row}
 use Rattle.reach.specs.Lists.{All}
-use Rattle.rules.specs.Limits.{most-threads, most-variables, all-registers, pairs-size}
+use Rattle.rules.specs.Limits.{most-threads, memory-size, registers-size, entries-size}
 use Rattle.buffer.proofs.Buf.{the-field}
 use Rattle.state.proofs.State.{the-type}
 use Rattle.buffer.specs.declared.Buf.{Buf}
@@ -23,7 +23,7 @@ unmapped f l n e = sym (length-map l f) ∙ e
 buffers-full : (l : List Buf) (us : List Val) → shadow (each _ (the-field .row .own) (map (the-field .into) l) us) → All FullBuffer l
 buffers-full [] us p = tt
 buffers-full (b ∷ l) [] p = absurd p
-buffers-full (b ∷ l) (u ∷ us) p = (unmapped _ (b .slots) pairs-size (p .0 .1 .1 .1 .0 .1 .0 .1), buffers-full l us (p .1))
+buffers-full (b ∷ l) (u ∷ us) p = (unmapped _ (b .slots) entries-size (p .0 .1 .1 .1 .0 .1 .0 .1), buffers-full l us (p .1))
 
 pub state-sized : (s : State) (vs : List Val) → Is (row the-type) s vs → Sized s
 state-sized s vs p =
@@ -31,8 +31,8 @@ state-sized s vs p =
     let buffers = fields .1 .1 .1 .0 in
     record {
       places-number = unmapped _ (s .places) most-threads (fields .0 .1 .0 .1);
-      registers-number = unmapped _ (s .regs) all-registers (fields .1 .0 .1 .0 .1);
-      memory-number = unmapped _ (s .mem) most-variables (fields .1 .1 .0 .1 .0 .1);
+      registers-number = unmapped _ (s .regs) registers-size (fields .1 .0 .1 .0 .1);
+      memory-number = unmapped _ (s .mem) memory-size (fields .1 .1 .0 .1 .0 .1);
       buffers-number = unmapped _ (s .bufs) most-threads (buffers .1 .0 .1);
       full = buffers-full (s .bufs) (buffers .0) (buffers .1 .1);
     }

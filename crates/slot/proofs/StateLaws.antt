@@ -4,7 +4,7 @@ use mathlib.Core.List.{List, _++_}
 use Prim.Native.Nat.{ℕ, _+_, _*_, _≤_}
 use native.Mathlib.Omega.{arith}
 use lib.ListN.{length, length-append}
-use Rattle.rules.specs.Limits.{most-threads, all-registers, most-variables, buffer-size, slot-size}
+use Rattle.rules.specs.Limits.{most-threads, registers-size, memory-size, buffer-size, slot-size}
 use Rattle.span.specs.Span.{bytes-at, laid}
 use Rattle.span.specs.SpanLaws.{laid-then, laid-all, bytes-at-add, bytes-at-number}
 use Rattle.buffer.specs.declared.Buf.{Buf}
@@ -36,8 +36,8 @@ module _ (s : State) (sizes : Sized s) where
 
 pub read-parts : (table : List ℕ) (i : ℕ) → Room table i → (places registers memory : List ℕ) (buffers : List Buf)
     → places ≡ bytes-at table (slot-size * i) most-threads
-    → registers ≡ bytes-at table (slot-size * i + registers-at) all-registers
-    → memory ≡ bytes-at table (slot-size * i + memory-at) most-variables
+    → registers ≡ bytes-at table (slot-size * i + registers-at) registers-size
+    → memory ≡ bytes-at table (slot-size * i + memory-at) memory-size
     → ReadBuffers table (slot-size * i + buffers-at) most-threads buffers
     → ReadFrom table i (record { places = places; regs = registers; mem = memory; bufs = buffers })
 unfolding state-bytes
@@ -51,13 +51,13 @@ read-parts table i room places registers memory buffers p r m b =
             m,
             b .bytes,
             bytes-at-add table at buffers-at (most-threads * buffer-size),
-            bytes-at-add table at memory-at most-variables,
-            bytes-at-add table at registers-at all-registers,
+            bytes-at-add table at memory-at memory-size,
+            bytes-at-add table at registers-at registers-size,
           );
       sized = record {
         places-number = ap length p ∙ bytes-at-number table at most-threads (omega arith);
-        registers-number = ap length r ∙ bytes-at-number table (at + registers-at) all-registers (omega arith);
-        memory-number = ap length m ∙ bytes-at-number table (at + memory-at) most-variables (omega arith);
+        registers-number = ap length r ∙ bytes-at-number table (at + registers-at) registers-size (omega arith);
+        memory-number = ap length m ∙ bytes-at-number table (at + memory-at) memory-size (omega arith);
         buffers-number = b .number;
         full = b .full;
       };

@@ -1,14 +1,14 @@
--- A state's bytes, in the order of 01's "Slot layout".
+-- A state's bytes, in the order of a slot.
 use mathlib.Core.Path.{_≡_}
 use mathlib.Core.List.{List, [], _∷_, _++_}
 use Prim.Native.Nat.{ℕ, _+_}
 use lib.ListN.{length}
 use Rattle.reach.specs.Lists.{All}
-use Rattle.rules.specs.Limits.{most-threads, most-variables, all-registers, pairs-size}
+use Rattle.rules.specs.Limits.{most-threads, registers-size, memory-size, entries-size}
 use Rattle.buffer.specs.declared.Buf.{Buf}
 use Rattle.state.specs.declared.State.{State}
 
--- "17 bytes a thread: count, and eight pairs"
+-- "25 bytes a thread": count, and eight entries
 unfoldable pub buffer-bytes : Buf → List ℕ
 buffer-bytes b = b .count ∷ b .slots
 
@@ -16,7 +16,7 @@ unfoldable pub buffers-bytes : List Buf → List ℕ
 buffers-bytes [] = []
 buffers-bytes (b ∷ l) = buffer-bytes b ++ buffers-bytes l
 
--- "bytes 0-3 places; 4-19 registers, thread by thread; 20-27 memory; then 17 bytes a thread"
+-- "4 places, 32 register bytes, 16 memory bytes, and 25 bytes a thread"
 unfoldable pub state-bytes : State → List ℕ
 state-bytes s = s .places ++ s .regs ++ s .mem ++ buffers-bytes (s .bufs)
 
@@ -25,18 +25,18 @@ abbrev pub registers-at : ℕ
 registers-at = most-threads
 
 abbrev pub memory-at : ℕ
-memory-at = registers-at + all-registers
+memory-at = registers-at + registers-size
 
 abbrev pub buffers-at : ℕ
-buffers-at = memory-at + most-variables
+buffers-at = memory-at + memory-size
 
 abbrev pub FullBuffer : Buf → Type 0
-FullBuffer b = length (b .slots) ≡ pairs-size
+FullBuffer b = length (b .slots) ≡ entries-size
 
 -- what the types of a state's fields say: how many there are of each
 pub record Sized (s : State) : Type 0 where
   pub places-number : length (s .places) ≡ most-threads
-  pub registers-number : length (s .regs) ≡ all-registers
-  pub memory-number : length (s .mem) ≡ most-variables
+  pub registers-number : length (s .regs) ≡ registers-size
+  pub memory-number : length (s .mem) ≡ memory-size
   pub buffers-number : length (s .bufs) ≡ most-threads
   pub full : All FullBuffer (s .bufs)

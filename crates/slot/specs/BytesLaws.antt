@@ -11,7 +11,7 @@ use Rattle.rules.specs.Limits.{buffer-size, slot-size}
 use Rattle.buffer.specs.declared.Buf.{Buf}
 use Rattle.state.specs.declared.State.{State}
 use Rattle.buffer.specs.Held.{BufferOk}
-use Rattle.buffer.specs.PairLaws.{all-take}
+use Rattle.buffer.specs.EntryLaws.{all-take}
 use Rattle.state.specs.Held.{StateOk}
 use Rattle.slot.specs.Bytes.{buffer-bytes, buffers-bytes, state-bytes, FullBuffer, Sized}
 
@@ -60,9 +60,9 @@ buffers-bytes-equal (b ∷ l) [] n h k e = absurd (omega arith)
 buffers-bytes-equal (b ∷ l) (c ∷ m) n h k e =
     let parts = append-equal (buffer-bytes b) (buffer-bytes c) (buffers-bytes l) (buffers-bytes m) (omega (arith, h .0, k .0)) e in
     let count : b .count ≡ c .count = cc in
-    let pairs : b .slots ≡ c .slots = cc in
+    let entries : b .slots ≡ c .slots = cc in
     let rest = buffers-bytes-equal l m (omega arith) (h .1) (k .1) (parts .1) in
-    λ i. record { count = count i; slots = pairs i } ∷ rest i
+    λ i. record { count = count i; slots = entries i } ∷ rest i
 
 -- states with the same bytes are the same state
 pub state-bytes-equal : (x y : State) → Sized x → Sized y → state-bytes x ≡ state-bytes y → x ≡ y

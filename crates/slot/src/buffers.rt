@@ -1,4 +1,4 @@
-// The four buffers of a state, 17 bytes each: the count and then the pairs.
+// The four buffers of a state, 25 bytes each: the count and then the entries.
 use buffer::Buf;
 use state::State;
 ghost use Prim.Native.Nat.{_+_, _*_, _≤_};
@@ -8,7 +8,7 @@ ghost use Rattle.span.specs.Span.{Laid};
 ghost use Rattle.slot.specs.Bytes.{buffer-bytes, buffers-bytes};
 ghost use Rattle.slot.specs.Table.{ReadBuffer, ReadBuffers};
 
-// Lays the count and then the pairs over the table from `at` on.
+// Lays the count and then the entries over the table from `at` on.
 fn put_buffer(table: &mut [u8], at: usize, b: Buf)
     requires { ⌜ at + buffer-size ≤ length (now table) ⌝ }
     ensures { λ r. ⌜ Laid (now (table .entry)) (now (table .exit)) at (buffer-bytes b) ⌝ }
@@ -30,12 +30,12 @@ pub fn put_buffers(table: &mut [u8], at: usize, x: State)
     }
 }
 
-// The buffer whose count and pairs stand from `at` on.
+// The buffer whose count and entries stand from `at` on.
 fn read_buffer(table: &[u8], at: usize) -> Buf
     requires { ⌜ at + buffer-size ≤ length (now table) ⌝ }
     ensures { λ r. ⌜ ReadBuffer (now (table .entry)) at r ⌝ }
 {
-    let mut slots = [0u8; rules::PAIRS_SIZE];
+    let mut slots = [0u8; rules::ENTRIES_SIZE];
     span::read_bytes(&mut slots, table, at + 1);
     Buf {
         count: table[at],
@@ -50,7 +50,7 @@ pub fn read_buffers(table: &[u8], at: usize) -> [Buf; rules::THREADS]
 {
     let empty = Buf {
         count: 0,
-        slots: [0; rules::PAIRS_SIZE],
+        slots: [0; rules::ENTRIES_SIZE],
     };
     let mut bufs = [empty; rules::THREADS];
     let mut read: usize = 0;

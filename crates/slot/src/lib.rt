@@ -27,9 +27,9 @@ pub fn read_slot(table: &[u8], i: usize) -> State
     let at = rules::SLOT_SIZE * i;
     let mut places = [0u8; rules::THREADS];
     span::read_bytes(&mut places, table, at);
-    let mut regs = [0u8; rules::ALL_REGISTERS];
+    let mut regs = [0u8; rules::REGISTERS_SIZE];
     span::read_bytes(&mut regs, table, at + layout::REGISTERS_AT);
-    let mut mem = [0u8; rules::VARIABLES];
+    let mut mem = [0u8; rules::MEMORY_SIZE];
     span::read_bytes(&mut mem, table, at + layout::MEMORY_AT);
     let bufs = buffers::read_buffers(table, at + layout::BUFFERS_AT);
     State {

@@ -1,24 +1,42 @@
-// The tables of 01 and request 7: what four bytes are as an instruction, and what they are as a clause of a goal.
+// The tables of 01 and requests 7 and 10: how wide the values of a version are, what the bytes of an item are as an instruction, and what they are as a
+// clause of a goal.
 use rules::Clause;
 use rules::Instr;
 use rules::REGISTERS_EACH;
 use rules::SECOND_VERSION;
 use rules::Source;
+use rules::THIRD_VERSION;
+use rules::Width;
 ghost use mathlib.Core.Path.{_≡_};
 ghost use Rattle.rules.specs.Step.{given};
-ghost use Rattle.rules.specs.File.{instruction-of, clause-of};
+ghost use mathlib.Core.Bool.{_&&_};
+ghost use lib.Dec.{ltb, leb};
+ghost use Rattle.rules.specs.Limits.{width-of};
+ghost use Rattle.rules.specs.File.{zero-ok, instruction-of, clause-of};
+ghost use Rattle.rules.specs.declared.Clause.the-variants.{PlaceIs};
 ghost use Rattle.tables.specs.Told.{instr-of, goal-clause-of};
 
-// What four bytes are: an instruction, or none.
+// What the bytes of an item are: an instruction, or none.
 pub enum InstrRead {
     Good(Instr),
     Bad,
 }
 
-// What four bytes are: a clause, or none.
+// What the bytes of an item are: a clause, or none.
 pub enum ClauseRead {
     Good(Clause),
     Bad,
+}
+
+// How wide the values of a version are. A byte that is no version has the width of the first two.
+pub fn width(version: u8) -> Width
+    ensures { λ r. ⌜ r ≡ width-of version ⌝ }
+{
+    if version == THIRD_VERSION {
+        Width::Two
+    } else {
+        Width::One
+    }
 }
 
 // The row's instruction, if its bytes are good.
@@ -32,13 +50,16 @@ fn keep(ok: bool, i: Instr) -> InstrRead
     }
 }
 
-// vars is V, n the length of the thread that the instruction stands in. Version 2 has two operations more.
-pub fn instruction(version: u8, vars: u8, n: u8, op: u8, a: u8, b: u8, c: u8) -> InstrRead
+// vars is V, n the length of the thread that the instruction stands in. From version 2 on there are two operations more.
+pub fn instruction(version: u8, vars: u8, n: u8, op: u8, a: u8, b: u8, c: u16) -> InstrRead
     ensures { λ r. ⌜ instr-of r ≡ instruction-of version vars n op a b c ⌝ }
 {
     match op {
         1 => keep((a < REGISTERS_EACH) & (b == 0), Instr::Set(a, c)),
-        2 => keep((a < REGISTERS_EACH) & (b == 0), Instr::Add(a, c)),
+        2 => keep(
+            (a < REGISTERS_EACH) & (b == 0),
+            Instr::Add(width(version), a, c),
+        ),
         3 => keep(
             (a < REGISTERS_EACH) & (b < vars) & (c == 0),
             Instr::Load(a, b),
@@ -78,12 +99,23 @@ fn keep_clause(ok: bool, i: Clause) -> ClauseRead
     }
 }
 
+// A clause of a place: one that the thread has is a byte.
+fn place_clause(count: u8, n: u8, a: u8, b: u8, c: u16) -> ClauseRead
+    ensures { λ r. ⌜ goal-clause-of r ≡ given (ltb a count && zero-ok b && leb c n) (PlaceIs a c) ⌝ }
+{
+    if c <= (n as u16) {
+        let place = c as u8;
+        return keep_clause((a < count) & (b == 0), Clause::PlaceIs(a, place));
+    }
+    ClauseRead::Bad
+}
+
 // vars is V, count is T, n the length of thread a, if the job has it.
-pub fn clause(vars: u8, count: u8, n: u8, kind: u8, a: u8, b: u8, c: u8) -> ClauseRead
+pub fn clause(vars: u8, count: u8, n: u8, kind: u8, a: u8, b: u8, c: u16) -> ClauseRead
     ensures { λ r. ⌜ goal-clause-of r ≡ clause-of vars count n kind a b c ⌝ }
 {
     match kind {
-        1 => keep_clause((a < count) & (b == 0) & (c <= n), Clause::PlaceIs(a, c)),
+        1 => place_clause(count, n, a, b, c),
         2 => keep_clause(
             (a < count) & (b < REGISTERS_EACH),
             Clause::RegisterIs(a, b, c),

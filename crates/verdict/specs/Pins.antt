@@ -10,7 +10,7 @@ use lib.ListN.{getD, getElem?, set}
 use Rattle.reach.specs.Lists.{All}
 use Rattle.reach.specs.ListLaws.{all-nth}
 use Rattle.rules.specs.File.{read-on, _>>=_, done, times, judged, byte, item, field, model-of, in-range, capacity-of, register-ok, zero-ok}
-use Rattle.rules.specs.File.{instruction-of, instruction, thread, flag-of, clause-of, clause, ended, fields, length-ok}
+use Rattle.rules.specs.File.{instruction-of, instruction, thread, value, initial-value, flag-of, clause-of, clause, ended, fields, length-ok}
 use Rattle.rules.specs.File.{accepted, refused, decoded, decode, held-job, job-of}
 use Rattle.rules.specs.Fences.{fenced, open-at}
 use Rattle.rules.specs.declared.Model.the-variants.{Sc, Tso, Pso}
@@ -117,7 +117,7 @@ heads-are :
     × (job-of (set p4 17 0x01) .model ≡ Tso)
     × (job-of (set p4 3 0x02) .model ≡ Pso)
     × (job-of parked-store .all-empty ≡ true)
-unfolding p1 p2 p4 p6 p7 p9 p9-sc p9-sc-drained p2-drained parked-store job-of held-job decode read-on _>>=_ done times judged byte item field model-of in-range capacity-of register-ok zero-ok instruction-of instruction thread flag-of clause-of clause ended fields length-ok decoded
+unfolding p1 p2 p4 p6 p7 p9 p9-sc p9-sc-drained p2-drained parked-store job-of held-job decode read-on _>>=_ done times judged byte item field model-of in-range capacity-of register-ok zero-ok instruction-of instruction thread value initial-value flag-of clause-of clause ended fields length-ok decoded
 heads-are = (refl, refl, refl, refl, refl, refl, refl, refl, refl, refl, refl, refl)
 
 -- The ways to HOLD: an answer that is not "unreachable"; under SC flag 0, or OPEN; a refusal.

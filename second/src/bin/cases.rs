@@ -6,7 +6,7 @@ use std::path::Path;
 use std::process::ExitCode;
 use std::{env, fs, io};
 
-const USAGE: &str = "use one of (each writes DIR/stdin and DIR/stdout, and prints how many cases have long threads and how many are of version 2, replay also how many are stuck by which reason, fences how many have dead code):
+const USAGE: &str = "use one of (each writes DIR/stdin and DIR/stdout, and prints how many cases have long threads, how many are of version 2 and how many of version 3, replay also how many are stuck by which reason, fences how many have dead code):
   cases job DIR
   cases search DIR
   cases replay DIR
@@ -61,6 +61,10 @@ fn of_decoder() -> Kind {
         counts: [
             counts_line("job_cases", &job_cases::counts_of_long_threads()),
             counts_line("job_cases, version 2", &job_cases::counts_of_version_two()),
+            counts_line(
+                "job_cases, version 3",
+                &job_cases::counts_of_version_three(),
+            ),
         ]
         .join("\n"),
     }
@@ -77,6 +81,10 @@ fn of_search() -> Kind {
                 "search_cases, version 2",
                 &search_cases::counts_of_version_two(),
             ),
+            counts_line(
+                "search_cases, version 3",
+                &search_cases::counts_of_version_three(),
+            ),
         ]
         .join("\n"),
     }
@@ -88,6 +96,7 @@ fn of_replay() -> Kind {
     let long_threads = replay_cases::counts_of_long_threads();
     let reasons = replay_cases::counts_of_reasons();
     let version_two = replay_cases::counts_of_version_two();
+    let version_three = replay_cases::counts_of_version_three();
     Kind {
         cases: cases.iter().flat_map(scheduled).collect(),
         lines: lines.collect(),
@@ -95,6 +104,7 @@ fn of_replay() -> Kind {
             counts_line("replay_cases", &long_threads),
             counts_line("replay_cases, reasons", &reasons),
             counts_line("replay_cases, version 2", &version_two),
+            counts_line("replay_cases, version 3", &version_three),
         ]
         .join("\n"),
     }
@@ -106,6 +116,7 @@ fn of_fence_check() -> Kind {
     let long_threads = fence_cases::counts_of_long_threads();
     let dead_code = fence_cases::counts_of_dead_code();
     let version_two = fence_cases::counts_of_version_two();
+    let version_three = fence_cases::counts_of_version_three();
     Kind {
         cases: cases.iter().flat_map(|job| counted(job)).collect(),
         lines: lines.collect(),
@@ -113,6 +124,7 @@ fn of_fence_check() -> Kind {
             counts_line("fence_cases", &long_threads),
             counts_line("fence_cases, dead code", &dead_code),
             counts_line("fence_cases, version 2", &version_two),
+            counts_line("fence_cases, version 3", &version_three),
         ]
         .join("\n"),
     }

@@ -1,6 +1,7 @@
 //! Command line over the second checker.
 
 use second::hex::{from_hex, to_hex};
+use second::job::LONGEST_FILE;
 use second::machine::SLOT_BYTES;
 use std::io::{self, Read, Write};
 use std::process::ExitCode;
@@ -52,7 +53,9 @@ fn run_bench(rest: &[String]) -> Result<String, String> {
         return Err("bench takes no argument; give the job on standard input".to_string());
     }
     let mut job = Vec::new();
-    let read = io::stdin().read_to_end(&mut job);
+    // One byte more than any file may have is enough to refuse it, whatever else there is to read.
+    let most = LONGEST_FILE as u64 + 1;
+    let read = io::stdin().take(most).read_to_end(&mut job);
     read.map_err(|fault| format!("cannot read the job ({fault}); check standard input"))?;
     Ok(second::bench_lines(&job))
 }

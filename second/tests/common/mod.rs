@@ -95,24 +95,37 @@ impl Run {
     }
 }
 
-/// A slot in words: places, registers of each thread, memory, pairs of each thread.
+/// A slot in words: places, registers of each thread, memory, and of each thread the pending stores, each a variable with 16 times its group and a value.
 pub fn slot(
     places: &[u8],
-    registers: &[[u8; 4]],
-    memory: &[u8],
-    buffers: &[&[[u8; 2]]],
+    registers: &[[u16; 4]],
+    memory: &[u16],
+    buffers: &[&[[u16; 2]]],
 ) -> Vec<u8> {
-    let mut bytes = vec![0; SLOT_BYTES];
-    bytes[..places.len()].copy_from_slice(places);
+    let mut bytes = vec![0; 152];
+    let mut put = |at: usize, value: u16| {
+        bytes[at] = (value / 256) as u8;
+        bytes[at + 1] = (value % 256) as u8;
+    };
     for (thread, values) in registers.iter().enumerate() {
-        bytes[4 + 4 * thread..8 + 4 * thread].copy_from_slice(values);
+        for (register, &value) in values.iter().enumerate() {
+            put(4 + 8 * thread + 2 * register, value);
+        }
     }
-    bytes[20..20 + memory.len()].copy_from_slice(memory);
-    for (thread, pairs) in buffers.iter().enumerate() {
-        let first = 28 + 17 * thread;
-        bytes[first] = pairs.len() as u8;
-        for (index, pair) in pairs.iter().enumerate() {
-            bytes[first + 1 + 2 * index..first + 3 + 2 * index].copy_from_slice(pair);
+    for (variable, &value) in memory.iter().enumerate() {
+        put(36 + 2 * variable, value);
+    }
+    for (thread, stores) in buffers.iter().enumerate() {
+        for (index, &[_, value]) in stores.iter().enumerate() {
+            put(52 + 25 * thread + 1 + 3 * index + 1, value);
+        }
+    }
+    bytes[..places.len()].copy_from_slice(places);
+    for (thread, stores) in buffers.iter().enumerate() {
+        let first = 52 + 25 * thread;
+        bytes[first] = stores.len() as u8;
+        for (index, &[variable, _]) in stores.iter().enumerate() {
+            bytes[first + 1 + 3 * index] = variable as u8;
         }
     }
     bytes

@@ -1,4 +1,4 @@
--- `buffer::pending` meets its contract: the count byte without the mark is how many pairs are held.
+-- `buffer::pending` meets its contract: the count byte without the mark is how many entries are held.
 use mathlib.Core.Path.{sym}
 use Rattle.buffer.specs.HeldLaws.{held-number}
 use Rattle.buffer.proofs.pending.Statement.{statement}

@@ -14,7 +14,7 @@ control-of-requires c κs = search needs
 place-after-requires : tie.Need-place-after-requires
 place-after-requires c κs =
     let operands = c .before .pre .1 .0 in
-    (c .before .pre .0, subst ControlOk (sym (c .control-of .ensures)) (operands .n, control-in _ _ _ (operands .fits)))
+    (c .before .pre .0, subst ControlOk (sym (c .control-of .ensures)) (operands .n, control-in _ _ _ _ (operands .fits)))
 
 changed-requires : tie.Need-changed-requires
 changed-requires c κs = search needs

@@ -1,17 +1,28 @@
--- `state::variable` meets its contract: a variable is an element of the value.
-use mathlib.Core.Path.{refl}
+-- `state::variable` meets its contract: a variable is two bytes of the value.
 use borrow.Author.Needs.{needs}
-use Rattle.rules.specs.State.{variable}
-use Rattle.state.specs.Held.{held}
+use Rattle.state.proofs.PartLaws.{variable-read}
 use Rattle.state.proofs.variable.Statement.{statement}
 use Rattle.state.proofs.variable.Tie as tie
 
-element-copy-out-result : tie.Need-element-copy-out-result
-element-copy-out-result c = search needs
+variable-at-requires : tie.Need-variable-at-requires
+variable-at-requires c κs = search needs
+
+element-copy-out-word : tie.Need-element-copy-out-word
+element-copy-out-word c = search needs
+
+add-word : tie.Need-add-word
+add-word c = search needs
+
+element-copy-out-word-2 : tie.Need-element-copy-out-word-2
+element-copy-out-word-2 c = search needs
+
+word-requires : tie.Need-word-requires
+word-requires c κs = search needs
 
 returns : tie.Need-returns
-unfolding variable held
-returns c = refl
+returns c =
+    let start = c .before .before .before .before in
+    rw (variable-read _ (start .pre .0) _, ← c .before .before .before .variable-at .ensures .0) (c .word .ensures)
 
 pub variable-spec : {M : Type 1} → statement M
-variable-spec = tie.close (tie.spec element-copy-out-result returns)
+variable-spec = tie.close (tie.spec variable-at-requires element-copy-out-word add-word element-copy-out-word-2 word-requires returns)

@@ -9,26 +9,26 @@ use Rattle.rules.specs.File.{clause-of, register-ok, zero-ok}
 use Rattle.tables.proofs.clause.Statement.{statement}
 use Rattle.tables.proofs.clause.Tie as tie
 
+place-clause-requires : tie.Need-place-clause-requires
+place-clause-requires c κs = search needs
+
 keep-clause-requires : tie.Need-keep-clause-requires
 keep-clause-requires c κs = search needs
 
 keep-clause-requires-2 : tie.Need-keep-clause-requires-2
 keep-clause-requires-2 c κs = search needs
 
-keep-clause-requires-3 : tie.Need-keep-clause-requires-3
-keep-clause-requires-3 c κs = search needs
-
 returns : tie.Need-returns
-unfolding clause-of register-ok zero-ok
-returns c = rw (c .before .match .keys1) (c .keep-clause .ensures)
+unfolding clause-of
+returns c = rw (c .before .match .keys1) (c .place-clause .ensures)
 
 returns-2 : tie.Need-returns-2
 unfolding clause-of register-ok zero-ok
-returns-2 c = rw (c .before .match .keys2) (c .keep-clause2 .ensures)
+returns-2 c = rw (c .before .match .keys2) (c .keep-clause .ensures)
 
 returns-3 : tie.Need-returns-3
 unfolding clause-of register-ok zero-ok
-returns-3 c = rw (c .before .match .keys3) (c .keep-clause3 .ensures)
+returns-3 c = rw (c .before .match .keys3) (c .keep-clause2 .ensures)
 
 returns-4 : tie.Need-returns-4
 unfolding clause-of
@@ -45,9 +45,9 @@ pub clause-spec : {M : Type 1} → statement M
 clause-spec =
     tie.close
     (tie.spec
+    place-clause-requires
     keep-clause-requires
     keep-clause-requires-2
-    keep-clause-requires-3
     returns
     returns-2
     returns-3

@@ -12,6 +12,9 @@ use Rattle.tables.proofs.instruction.Tie as tie
 keep-requires : tie.Need-keep-requires
 keep-requires c κs = search needs
 
+width-requires : tie.Need-width-requires
+width-requires c κs = search needs
+
 keep-requires-2 : tie.Need-keep-requires-2
 keep-requires-2 c κs = search needs
 
@@ -48,7 +51,7 @@ returns c = rw (c .before .match .keys1) (c .keep .ensures)
 
 returns-2 : tie.Need-returns-2
 unfolding instruction-of register-ok zero-ok
-returns-2 c = rw (c .before .match .keys2) (c .keep2 .ensures)
+returns-2 c = rw (c .before .before .match .keys2, ← (c .before .width .ensures)) (c .keep2 .ensures)
 
 returns-3 : tie.Need-returns-3
 unfolding instruction-of register-ok zero-ok
@@ -116,6 +119,7 @@ instruction-spec =
     tie.close
     (tie.spec
     keep-requires
+    width-requires
     keep-requires-2
     keep-requires-3
     keep-requires-4

@@ -1,15 +1,15 @@
--- `buffer::flush::counted` meets its contract. The invariant: the groups of the pairs below i are lowered, the others as they were.
+-- `buffer::flush::counted` meets its contract. The invariant: the groups of the entries below i are lowered, the others as they were.
 use Prim.Native.Nat.{_-_, _/_, _≤_}
 use native.Mathlib.Omega.{arith}
 use lib.ListN.{getD}
 use Rattle.rules.specs.Limits.{group-unit}
-use Rattle.buffer.specs.Held.{pairs}
+use Rattle.buffer.specs.Held.{entries}
 use Rattle.buffer.proofs.GroupLaws.{Lowering, none-counted, counted-already, lowering-starts, lowering-goes-on, lowering-ends}
 use Rattle.buffer.proofs.flush.counted.Statement.{statement}
 use Rattle.buffer.proofs.flush.counted.Tie as tie
 
 abbrev Inv-loop : tie.InvT-loop
-Inv-loop b n oldest s₀ i₀ s i = Lowering (pairs (b .slots)) (getD (b .slots) 0 0 / group-unit) s i × (i ≤ n)
+Inv-loop b n oldest s₀ i₀ s i = Lowering (entries (b .slots)) (getD (b .slots) 0 0 / group-unit) s i × (i ≤ n)
 
 abbrev μ-loop : tie.MeasureT-loop
 μ-loop b n oldest s₀ i₀ s i = n - i
@@ -41,8 +41,11 @@ loop-holds c =
 mul-at-variable : tie.Need-mul-at-variable Inv-loop μ-loop
 mul-at-variable c = omega arith
 
-add-at-value : tie.Need-add-at-value Inv-loop μ-loop
-add-at-value c = omega arith
+add-at-high : tie.Need-add-at-high Inv-loop μ-loop
+add-at-high c = omega arith
+
+add-at-low : tie.Need-add-at-low Inv-loop μ-loop
+add-at-low c = omega arith
 
 element-copy-out-lower : tie.Need-element-copy-out-lower Inv-loop μ-loop
 element-copy-out-lower c = omega arith
@@ -50,14 +53,20 @@ element-copy-out-lower c = omega arith
 lower-requires : tie.Need-lower-requires Inv-loop μ-loop
 lower-requires c κs = tt
 
-element-copy-out-value : tie.Need-element-copy-out-value Inv-loop μ-loop
-element-copy-out-value c = omega arith
+element-copy-out-high : tie.Need-element-copy-out-high Inv-loop μ-loop
+element-copy-out-high c = omega arith
+
+element-copy-out-low : tie.Need-element-copy-out-low Inv-loop μ-loop
+element-copy-out-low c = omega arith
 
 array-write-s : tie.Need-array-write-s Inv-loop μ-loop
 array-write-s c = omega arith
 
 array-write-s-2 : tie.Need-array-write-s-2 Inv-loop μ-loop
 array-write-s-2 c = omega arith
+
+array-write-s-3 : tie.Need-array-write-s-3 Inv-loop μ-loop
+array-write-s-3 c = omega arith
 
 add-i : tie.Need-add-i Inv-loop μ-loop
 add-i c = omega arith
@@ -67,10 +76,11 @@ loop-less c = omega arith
 
 loop-again : tie.Need-loop-again Inv-loop μ-loop
 loop-again c =
-    let start = c .before .before .before .before .before .before .before .before .before in
-    let l = c .before .before .before .before .loop in (
-      lowering-goes-on (start .args .t1) (start .pre) (omega (arith, c .before .before .before .before .before .before .before .before .if1 .left)) (l .s) (l .i) (c .before .lower .result)
-          (omega (arith, start .pre .few, c .before .before .before .loop-test .taken)) (c .before .lower .ensures) (l .inv .0),
+    let start = c .before .before .before .before .before .before .before .before .before .before in
+    let l = c .before .before .before .before .before .loop in
+    let lower = c .before .before .lower in (
+      lowering-goes-on (start .args .t1) (start .pre) (omega (arith, c .before .before .before .before .before .before .before .before .before .if1 .left))
+          (l .s) (l .i) (lower .result) (omega (arith, start .pre .few, c .before .before .before .before .loop-test .taken)) (lower .ensures) (l .inv .0),
       omega arith,
     )
 
@@ -94,12 +104,15 @@ counted-spec =
     returns-2
     loop-holds
     mul-at-variable
-    add-at-value
+    add-at-high
+    add-at-low
     element-copy-out-lower
     lower-requires
-    element-copy-out-value
+    element-copy-out-high
+    element-copy-out-low
     array-write-s
     array-write-s-2
+    array-write-s-3
     add-i
     loop-less
     loop-again

@@ -1,4 +1,4 @@
--- `buffer::flush::is_oldest_to` meets its contract: the oldest store is the pair at index 0.
+-- `buffer::flush::is_oldest_to` meets its contract: the oldest store is the entry at index 0.
 use borrow.Author.Needs.{needs}
 use Rattle.buffer.proofs.ReadLaws.{oldest-first}
 use Rattle.buffer.proofs.flush.is_oldest_to.Statement.{statement}

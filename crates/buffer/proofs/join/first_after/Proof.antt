@@ -5,14 +5,14 @@ use Prim.Native.Nat.{_-_}
 use native.Mathlib.Omega.{arith}
 use borrow.Author.Tests.{lt-leb, le-leb}
 use Rattle.buffer.specs.Places.{is-after}
-use Rattle.buffer.specs.Held.{pair, number}
+use Rattle.buffer.specs.Held.{entry, number}
 use Rattle.buffer.proofs.PlaceLaws.{before-by-byte}
 use Rattle.buffer.proofs.ReadLaws.{Searched, search-starts, search-finds, search-goes-on, search-ends}
 use Rattle.buffer.proofs.join.first_after.Statement.{statement}
 use Rattle.buffer.proofs.join.first_after.Tie as tie
 
 abbrev Inv-loop : tie.InvT-loop
-Inv-loop byte k b n i₀ i = Searched (is-after (pair byte k)) b i
+Inv-loop byte k b n i₀ i = Searched (is-after (entry byte k)) b i
 
 abbrev μ-loop : tie.MeasureT-loop
 μ-loop byte k b n i₀ i = number b - i

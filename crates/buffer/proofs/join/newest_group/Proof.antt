@@ -1,4 +1,4 @@
--- `buffer::join::newest_group` meets its contract: the last pair has the newest group.
+-- `buffer::join::newest_group` meets its contract: the last entry has the newest group.
 use mathlib.Core.Path.{_≡_, refl, sym, ap, _∙_}
 use mathlib.Core.List.{List, [], _∷_}
 use Prim.Native.Nat.{ℕ, _-_, _≤_}
@@ -9,7 +9,7 @@ use Rattle.rules.specs.State.{Pending}
 use Rattle.rules.specs.Step.{newest-group}
 use Rattle.buffer.specs.Held.{number, held-pending}
 use Rattle.buffer.specs.HeldLaws.{held-number, held-at}
-use Rattle.buffer.specs.Places.{no-pair}
+use Rattle.buffer.specs.Places.{no-entry}
 use Rattle.buffer.proofs.PlaceLaws.{newest-last}
 use Rattle.buffer.proofs.join.newest_group.Statement.{statement}
 use Rattle.buffer.proofs.join.newest_group.Tie as tie
@@ -47,7 +47,7 @@ returns-2 c =
     let some : 1 ≤ length (held-pending b) = omega (arith, n, c .before .before .if1 .left) in (
       c .group-of .ensures .0
           ∙ sym (newest-last 0 (held-pending b) some
-          ∙ ap (λ k. getD (held-pending b) (k - 1) no-pair .group) n
+          ∙ ap (λ k. getD (held-pending b) (k - 1) no-entry .group) n
           ∙ ap (λ (p : Pending). p .group) (held-at b (start .pre) (number b - 1) (omega (arith, n, some)))),
       c .group-of .ensures .1,
     )

@@ -6,7 +6,7 @@ use native.Mathlib.Omega.{arith}
 use borrow.Author.Needs.{needs}
 use Rattle.rules.specs.Limits.{group-unit}
 use Rattle.rules.specs.State.{Pending}
-use Rattle.buffer.specs.Held.{pair, number, held-pending}
+use Rattle.buffer.specs.Held.{entry, number, held-pending}
 use Rattle.buffer.specs.HeldLaws.{held-number}
 use Rattle.buffer.specs.Posts.{Joined}
 use Rattle.buffer.proofs.PlaceLaws.{last-place}
@@ -17,7 +17,7 @@ cast-n : tie.Need-cast-n
 cast-n c = search needs
 
 -- a variable is the byte of a store of group 0
-one-group : (v k : ℕ) → v < group-unit → pair v k ≡ record { group = 0; variable = v; value = k }
+one-group : (v k : ℕ) → v < group-unit → entry v k ≡ record { group = 0; variable = v; value = k }
 one-group v k h =
     let zero : v / group-unit ≡ 0 = omega arith in
     let same : v % group-unit ≡ v = omega arith in

@@ -7,7 +7,7 @@ use lib.ListN.{length}
 use Rattle.rules.specs.Limits.{group-unit}
 use Rattle.rules.specs.State.{Pending}
 use Rattle.rules.specs.Step.{in-its-place}
-use Rattle.buffer.specs.Held.{pair, held-pending}
+use Rattle.buffer.specs.Held.{entry, held-pending}
 use Rattle.buffer.specs.HeldLaws.{held-number}
 use Rattle.buffer.specs.Posts.{Joined}
 use Rattle.buffer.proofs.PlaceLaws.{first-within, sorted-place}
@@ -15,8 +15,8 @@ use Rattle.buffer.proofs.join.with_sorted.Statement.{statement}
 use Rattle.buffer.proofs.join.with_sorted.Tie as tie
 
 -- group and variable make one byte
-pair-of : (byte g v k h : ℕ) → byte ≡ group-unit * g + v → g ≡ h → v < group-unit → pair byte k ≡ record { group = h; variable = v; value = k }
-pair-of byte g v k h e same low =
+entry-of : (byte g v k h : ℕ) → byte ≡ group-unit * g + v → g ≡ h → v < group-unit → entry byte k ≡ record { group = h; variable = v; value = k }
+entry-of byte g v k h e same low =
     let group : byte / group-unit ≡ h = omega arith in
     let variable : byte % group-unit ≡ v = omega arith in
     λ i. record { group = group i; variable = variable i; value = k }
@@ -45,7 +45,7 @@ returns c =
     let start = c .before .before .before in
     let at = c .before .first-after in
     let a = start .args in
-    let same = pair-of _ (c .before .before .joined-group .result) (a .v) (a .k) _ refl (c .before .before .joined-group .ensures) (omega (arith, start .pre .variable)) in
+    let same = entry-of _ (c .before .before .joined-group .result) (a .v) (a .k) _ refl (c .before .before .joined-group .ensures) (omega (arith, start .pre .variable)) in
     subst (Joined (c .put-in .result))
     (sorted-place _ (held-pending (a .b)) (at .result) (at .ensures) ∙ ap (λ (q : Pending). in-its-place q (held-pending (a .b))) same)
     (c .put-in .ensures)

@@ -6,7 +6,7 @@ use native.Mathlib.Nat.{sub-zero}
 use borrow.Author.Needs.{needs}
 use Rattle.rules.specs.File.{times, clause}
 use Rattle.readers.specs.Passed.{vars-in, passed}
-use Rattle.job.specs.Stages.{threads-of}
+use Rattle.job.specs.Stages.{width-in, threads-of}
 use Rattle.readers.proofs.Readers.{times-step, times-fault, times-end}
 use Rattle.job.proofs.goal.clauses.Statement.{statement}
 use Rattle.job.proofs.goal.clauses.Tie as tie
@@ -14,7 +14,7 @@ use Rattle.job.proofs.goal.clauses.Tie as tie
 abbrev Inv-loop : tie.InvT-loop
 Inv-loop job s count start at₀ i₀ at i =
     (i ≤ count)
-    × (passed (times count (clause job (vars-in job) (threads-of job)) start) ≡ passed (times (count - i) (clause job (vars-in job) (threads-of job)) at))
+    × (passed (times count (clause job (width-in job) (vars-in job) (threads-of job)) start) ≡ passed (times (count - i) (clause job (width-in job) (vars-in job) (threads-of job)) at))
 
 abbrev μ-loop : tie.MeasureT-loop
 μ-loop job s count start at₀ i₀ at i = count - i

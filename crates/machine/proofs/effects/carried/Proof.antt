@@ -2,7 +2,7 @@
 use mathlib.Core.Path.{subst}
 use borrow.Author.Needs.{needs}
 use Rattle.rules.specs.Step.{carried}
-use Rattle.rules.specs.Sound.{SourceIn}
+use Rattle.machine.specs.Operands.{SourceOk}
 use Rattle.machine.proofs.effects.carried.Statement.{statement}
 use Rattle.machine.proofs.effects.carried.Tie as tie
 
@@ -10,7 +10,7 @@ enum-known-a : tie.Need-enum-known-a
 enum-known-a c = search needs
 
 register-requires : tie.Need-register-requires
-register-requires c κs = (search needs, subst SourceIn (c .before .a .given .1) (c .before .before .before .pre .1))
+register-requires c κs = (search needs, subst SourceOk (c .before .a .given .1) (c .before .before .before .pre .1) .1)
 
 enum-known-a-2 : tie.Need-enum-known-a-2
 enum-known-a-2 c = search needs

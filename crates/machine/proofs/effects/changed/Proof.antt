@@ -40,7 +40,7 @@ enum-known-i-4 c = search needs
 carried-requires : tie.Need-carried-requires
 carried-requires c κs =
     let start = c .before .before .before in
-    (start .pre .0, fits-as (start .pre .1 .0) (c .before .i4 .given .1) .0)
+    (start .pre .0, (start .pre .1 .0 .width, fits-as (start .pre .1 .0) (c .before .i4 .given .1) .0))
 
 stored-requires : tie.Need-stored-requires
 unfolding free wait-of

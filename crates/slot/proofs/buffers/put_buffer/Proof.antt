@@ -1,4 +1,4 @@
--- `slot::buffers::put_buffer` meets its contract: the count, and from the next byte on the pairs.
+-- `slot::buffers::put_buffer` meets its contract: the count, and from the next byte on the entries.
 use mathlib.Core.Path.{_∙_}
 use borrow.Author.Needs.{needs}
 use native.Mathlib.Omega.{arith}
@@ -26,8 +26,8 @@ returns c =
     let start = c .before .before .before .before .before .before .before .before in
     let given = start .args in
     let full = c .before .before .before .put-bytes-arg3 .given .0 in
-    let pairs = laid-cons (given .table .now) (given .at) (given .t3 .count) (given .t3 .slots) (omega (arith, full, start .pre)) in
-    record { is = c .before .before .put-bytes .ensures .is ∙ pairs; size = same-length c }
+    let entries = laid-cons (given .table .now) (given .at) (given .t3 .count) (given .t3 .slots) (omega (arith, full, start .pre)) in
+    record { is = c .before .before .put-bytes .ensures .is ∙ entries; size = same-length c }
 
 pub put-buffer-spec : {M : Type 1} → statement M
 put-buffer-spec =

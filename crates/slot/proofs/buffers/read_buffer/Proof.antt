@@ -1,4 +1,4 @@
--- `slot::buffers::read_buffer` meets its contract: the count, and from the next byte on the pairs.
+-- `slot::buffers::read_buffer` meets its contract: the count, and from the next byte on the entries.
 use borrow.Author.Needs.{needs}
 use Rattle.slot.proofs.BufferLaws.{read-buffer-bytes}
 use Rattle.slot.proofs.buffers.read_buffer.Statement.{statement}
