@@ -30,8 +30,8 @@ extern "C" {
 /* Searches the job with N slots: the smallest of table_length / 152, links_length, schedule_length and 65536.
  * A slot has 152 bytes, whatever the job's version: 4 places, 16 registers thread by thread and 8 variables of two bytes each, then for each
  * thread 25: a count, and eight entries of three bytes (variable, and a value of two), unused ones 0. Values have their high byte first; in
- * versions 1 and 2 it is 0. Under PSO a WFENCE parts a thread's stores into groups: the variable byte has 16 times the group's number added (the oldest
- * group there is 0), and the count has 128 added while a WFENCE stands after the newest store.
+ * versions 1 and 2 it is 0. Under PSO a WFENCE parts a thread's stores into groups: the variable byte has 16 times the group's number added
+ * (the oldest group there is 0), and the count has 128 added while a WFENCE stands after the newest store.
  * answer: 0, number, offset, 0: refused
  *         1, d, states, 0:      reachable in d steps, which are the schedule's first d bytes
  *         2, states, 0, 0:      unreachable

@@ -13,7 +13,7 @@ use Rattle.rules.specs.Slot.{mark-byte}
 use Rattle.rules.specs.SlotLaws.{Byte}
 use Rattle.rules.specs.Step.{without-oldest-to}
 use Rattle.words.specs.Words.{word}
-use Rattle.buffer.specs.Held.{entry, entries, Lows, number, held-pending, held-buffer, BufferOk}
+use Rattle.buffer.specs.Held.{entry, entries, EntryLows, number, held-pending, held-buffer, BufferOk}
 use Rattle.buffer.specs.HeldLaws.{count-both, held-number, entries-held, holds}
 use Rattle.buffer.specs.EntryLaws.{entries-number, entries-at, entries-set, set-lows, low-at}
 use Rattle.buffer.specs.Places.{no-entry, entry-at, set-entry, first, is-to, with-at, without-at}
@@ -24,7 +24,7 @@ use Rattle.buffer.proofs.PlaceLaws.{carry-up, carry-down, with-at-numbe
 -- the bytes s, whose entries would be `all` if the entry went in at index i
 pub record Carried (s : List ℕ) (variable high low i : ℕ) (all : List Pending) : Type 0 where
   pub size : length s ≡ entries-size
-  pub lows : Lows s
+  pub lows : EntryLows s
   pub small : Byte low
   pub is : with-at i (entry variable (word high low)) (entries s) ≡ all
 

@@ -13,7 +13,7 @@ use Rattle.rules.specs.Slot.{mark-byte}
 use Rattle.rules.specs.Step.{lowered, counted, marked-buffer, is-empty}
 use Rattle.words.specs.Words.{word}
 use Rattle.rules.specs.BufferLaws.{lower, lowered-length, lowered-none}
-use Rattle.buffer.specs.Held.{entry, entries, Lows, number, held-pending, held-buffer, BufferOk}
+use Rattle.buffer.specs.Held.{entry, entries, EntryLows, number, held-pending, held-buffer, BufferOk}
 use Rattle.buffer.specs.HeldLaws.{count-both, held-entries, entries-held, rest-unused, held-number, held-at, held-few, holds}
 use Rattle.buffer.specs.EntryLaws.{entries-number, entries-at, entries-set, set-lows, low-at}
 use Rattle.buffer.specs.Places.{no-entry, entry-at, set-entry, padded}
@@ -23,7 +23,7 @@ use Rattle.buffer.specs.declared.Buf.{Buf}
 -- the entries below index i have their groups lowered by g, the others are as they were
 pub record Lowering (all : List Pending) (g : ℕ) (s : List ℕ) (i : ℕ) : Type 0 where
   pub size : length s ≡ entries-size
-  pub lows : Lows s
+  pub lows : EntryLows s
   pub is : entries s ≡ lowered g (take i all) ++ drop i all
 
 lower-one : (g : ℕ) (l : List Pending) (i : ℕ) → i < length l

@@ -11,7 +11,7 @@ use Rattle.rules.specs.Slot.{variable-byte, high, low, entry-bytes}
 use Rattle.rules.specs.SlotLaws.{Byte, Named}
 use Rattle.words.specs.Words.{word}
 use Rattle.words.specs.WordLaws.{value-back, high-back, low-back}
-use Rattle.buffer.specs.Held.{entry, entries, Lows}
+use Rattle.buffer.specs.Held.{entry, entries, EntryLows}
 use Rattle.buffer.specs.Places.{no-entry, entry-at, set-entry}
 
 -- Entries, written.
@@ -40,7 +40,7 @@ unfolding entry-bytes
 bytes-unused zero = refl
 bytes-unused (suc n) = rw (three-more, bytes-unused n)
 
-pub bytes-lows : (l : List Pending) → Lows (entry-bytes l)
+pub bytes-lows : (l : List Pending) → EntryLows (entry-bytes l)
 unfolding entry-bytes
 bytes-lows [] = tt
 bytes-lows (p ∷ l) = (omega arith, bytes-lows l)
@@ -84,7 +84,7 @@ unfolding entries
 number-by n l no-more = refl
 number-by n l (three m v h k r t) = ap suc (number-by m r t)
 
-back-by : (n : ℕ) (l : List ℕ) → Threes n l → Lows l → entry-bytes (entries l) ≡ l
+back-by : (n : ℕ) (l : List ℕ) → Threes n l → EntryLows l → entry-bytes (entries l) ≡ l
 unfolding entry-bytes entries
 back-by n l no-more w = refl
 back-by n l (three m v h k r t) w =
@@ -114,18 +114,18 @@ set-by n l (three m v h o r t) zero b g k = refl
 set-by n l (three m v h o r t) (suc i) b g k =
     rw (second-more, third-more, three-more) (ap {B = List Pending} (λ l. entry v (word h o) ∷ l) (set-by m r t i b g k))
 
-lows-by : (n : ℕ) (l : List ℕ) → Threes n l → (i b g k : ℕ) → Byte k → Lows l → Lows (set-entry l i b g k)
+lows-by : (n : ℕ) (l : List ℕ) → Threes n l → (i b g k : ℕ) → Byte k → EntryLows l → EntryLows (set-entry l i b g k)
 lows-by n l no-more i b g k small w = tt
 lows-by n l (three m v h o r t) zero b g k small w = (small, w .1)
 lows-by n l (three m v h o r t) (suc i) b g k small w = rw (second-more, third-more, three-more) (w .0, lows-by m r t i b g k small (w .1))
 
-low-by : (n : ℕ) (l : List ℕ) → Threes n l → (i : ℕ) → Lows l → Byte (getD l (entry-size * i + 2) 0)
+low-by : (n : ℕ) (l : List ℕ) → Threes n l → (i : ℕ) → EntryLows l → Byte (getD l (entry-size * i + 2) 0)
 low-by n l no-more i w = omega arith
 low-by n l (three m v h o r t) zero w = w .0
 low-by n l (three m v h o r t) (suc i) w = rw third-more (low-by m r t i (w .1))
 
 module _ (n : ℕ) (l : List ℕ) (size : length l ≡ entry-size * n) where
-  pub bytes-entries : Lows l → entry-bytes (entries l) ≡ l
+  pub bytes-entries : EntryLows l → entry-bytes (entries l) ≡ l
   bytes-entries w = back-by n l (threes n l size) w
 
   pub entries-number : length (entries l) ≡ n
@@ -140,8 +140,8 @@ module _ (n : ℕ) (l : List ℕ) (size : length l ≡ entry-size * n) where
   pub entries-set : (i b g k : ℕ) → entries (set-entry l i b g k) ≡ set (entries l) i (entry b (word g k))
   entries-set i b g k = set-by n l (threes n l size) i b g k
 
-  pub set-lows : (i b g k : ℕ) → Byte k → Lows l → Lows (set-entry l i b g k)
+  pub set-lows : (i b g k : ℕ) → Byte k → EntryLows l → EntryLows (set-entry l i b g k)
   set-lows i b g k small w = lows-by n l (threes n l size) i b g k small w
 
-  pub low-at : (i : ℕ) → Lows l → Byte (getD l (entry-size * i + 2) 0)
+  pub low-at : (i : ℕ) → EntryLows l → Byte (getD l (entry-size * i + 2) 0)
   low-at i w = low-by n l (threes n l size) i w

@@ -23,11 +23,11 @@ entries (v ∷ h ∷ []) = []
 entries (v ∷ h ∷ k ∷ l) = entry v (word h k) ∷ entries l
 
 -- the lower byte of each value is a byte: then the two are found again from the value
-abbrev pub Lows : List ℕ → Type 0
-Lows [] = Unit {0}
-Lows (v ∷ []) = Unit {0}
-Lows (v ∷ h ∷ []) = Unit {0}
-Lows (v ∷ h ∷ k ∷ l) = Byte k × Lows l
+abbrev pub EntryLows : List ℕ → Type 0
+EntryLows [] = Unit {0}
+EntryLows (v ∷ []) = Unit {0}
+EntryLows (v ∷ h ∷ []) = Unit {0}
+EntryLows (v ∷ h ∷ k ∷ l) = Byte k × EntryLows l
 
 -- how many stores are pending: the count byte without the mark
 abbrev pub number : Buf → ℕ
@@ -52,4 +52,4 @@ pub record BufferOk (b : Buf) : Type 0 where
   pub byte : b .count < 2 * mark-unit
   pub size : length (b .slots) ≡ entries-size
   pub unused : (i : ℕ) → entry-size * number b ≤ i → getD (b .slots) i 0 ≡ 0
-  pub lows : Lows (b .slots)
+  pub lows : EntryLows (b .slots)

@@ -15,7 +15,7 @@ use Rattle.rules.specs.Limits.{most-pending, mark-unit, entry-size, entries-siz
 use Rattle.rules.specs.State.{Pending, Buffer}
 use Rattle.rules.specs.Slot.{entry-bytes, mark-byte}
 use Rattle.rules.specs.SlotLaws.{Writable}
-use Rattle.buffer.specs.Held.{entries, Lows, number, held-pending, held-buffer, written-buffer, BufferOk}
+use Rattle.buffer.specs.Held.{entries, EntryLows, number, held-pending, held-buffer, written-buffer, BufferOk}
 use Rattle.buffer.specs.EntryLaws.{bytes-number, bytes-append, bytes-unused, bytes-lows, entries-bytes, bytes-entries, entries-number, entries-take, entries-at}
 use Rattle.buffer.specs.Places.{no-entry, entry-at, padded}
 use Rattle.buffer.specs.Posts.{Holds}
@@ -64,7 +64,7 @@ module _ (b : Buffer) (w : Writable b) where
         byte = count-byte (b .marked) (length l) (w .fits);
         size = omega (arith, padding, length-replicate {A = ℕ} (entries-size - length (entry-bytes l)) 0, bytes-number l, w .fits);
         unused = λ i h. getD-padded (entry-bytes l) (entries-size - length (entry-bytes l)) i 0 (omega (arith, bytes-number l, is));
-        lows = subst Lows (sym (slots-written l (w .fits))) (bytes-lows (padded l));
+        lows = subst EntryLows (sym (slots-written l (w .fits))) (bytes-lows (padded l));
       }
 
   pub held-written : held-buffer (written-buffer b) ≡ b
@@ -140,7 +140,7 @@ module _ (b : Buf) (ok : BufferOk b) where
 
 -- a buffer whose entries are some stores and else unused, and whose count byte has their number and the mark, holds those stores and the mark
 pub holds :
-    (b : Buf) (l : List Pending) (m : Bool) → b .count ≡ mark-byte m + length l → length l ≤ most-pending → length (b .slots) ≡ entries-size → Lows (b .slots) →
+    (b : Buf) (l : List Pending) (m : Bool) → b .count ≡ mark-byte m + length l → length l ≤ most-pending → length (b .slots) ≡ entries-size → EntryLows (b .slots) →
     entries (b .slots) ≡ padded l → Holds b (record { pending = l; marked = m })
 unfolding held-pending
 holds b l m count few size lows e =

@@ -39,13 +39,18 @@ unfoldable pub low-bytes : List ℕ → List ℕ
 low-bytes [] = []
 low-bytes (k ∷ l) = 0 ∷ k ∷ low-bytes l
 
--- the slot of thread 0 alone at this place: its registers, memory and its buffer's bytes, all as far as they are not 0
+-- bytes, and 0 behind them as far as there is room
 unfoldable pub filled : ℕ → List ℕ → List ℕ
 filled n l = l ++ replicate (n - length l) 0
 
+-- the slot of thread 0 alone at this place: the bytes of its registers, of memory and of its buffer, all as far as they are not 0
+unfoldable pub wide-slot : (place : ℕ) → (registers memory buffer : List ℕ) → List ℕ
+wide-slot place registers memory buffer =
+    (place ∷ 0 ∷ 0 ∷ 0 ∷ []) ++ filled 32 registers ++ filled 16 memory ++ filled 25 buffer ++ replicate 75 0
+
+-- the same with registers and memory below 256
 unfoldable pub alone-slot : (place : ℕ) → (registers memory buffer : List ℕ) → List ℕ
-alone-slot place registers memory buffer =
-    (place ∷ 0 ∷ 0 ∷ 0 ∷ []) ++ filled 32 (low-bytes registers) ++ filled 16 (low-bytes memory) ++ filled 25 buffer ++ replicate 75 0
+alone-slot place registers memory buffer = wide-slot place (low-bytes registers) (low-bytes memory) buffer
 
 -- SC, x is 5: CMPX of register 0, which is 0, then of register 0, which is 5
 unfoldable pub cmpx-twice : List ℕ

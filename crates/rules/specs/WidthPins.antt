@@ -4,15 +4,10 @@ use lib.ListN.{set, take, replicate}
 use Rattle.reach.specs.Replay.{reaches, falls-short, stuck}
 use Rattle.rules.specs.Claims.{Case, case, search-reaches, replay-says, slot-after, refuses, fences-say}
 use Rattle.rules.specs.Fences.{fenced}
-use Rattle.rules.specs.GroupJobs.{low-bytes, filled}
+use Rattle.rules.specs.GroupJobs.{wide-slot}
 use Rattle.rules.specs.WidthJobs.{wide, wide-sums, wide-stores, wide-jumps, wide-compares, wide-goal, one-wide, wide-fullest, blank-file}
 use Rattle.rules.specs.declared.Reason.the-variants.{ThreadEnded}
 use Prim.Native.Nat.{ℕ}
-
--- the slot of thread 0 alone at this place: the bytes of its registers, of memory and of its buffer, all as far as they are not 0
-unfoldable pub wide-slot : (place : ℕ) → (registers memory buffer : List ℕ) → List ℕ
-wide-slot place registers memory buffer =
-    (place ∷ 0 ∷ 0 ∷ 0 ∷ []) ++ filled 32 registers ++ filled 16 memory ++ filled 25 buffer ++ replicate 75 0
 
 unfoldable pub width-pins : List Case
 width-pins =
@@ -53,11 +48,13 @@ width-pins =
     ∷ case 400 wide-compares (slot-after (0x00 ∷ 0x00 ∷ 0x00 ∷ []) (wide-slot 0x03 (0x01 ∷ 0x00 ∷ 0xFF ∷ 0xFF ∷ []) [] []))
     -- clauses of place, register and memory with k of two bytes
     ∷ case 400 wide-goal (search-reaches 4 (0x00 ∷ 0x00 ∷ 0x00 ∷ []))
+    -- every clause counts: another low byte of the place's
+    ∷ case 400 (set wide-goal 31 0x02) (replay-says (0x00 ∷ 0x00 ∷ 0x00 ∷ []) falls-short)
     -- another high byte of a register's clause
     ∷ case 400 (set wide-goal 35 0x7F) (replay-says (0x00 ∷ 0x00 ∷ 0x00 ∷ []) falls-short)
     -- another low byte of memory's
     ∷ case 400 (set wide-goal 41 0xFE) (replay-says (0x00 ∷ 0x00 ∷ 0x00 ∷ []) falls-short)
-    -- a place clause at the thread's n, and above it
+    -- a place clause above the thread's n
     ∷ case 400 (set wide-goal 31 0x04) (refuses 5 27)
     -- a place clause of 256 plus a good place
     ∷ case 400 (set wide-goal 30 0x01) (refuses 5 27)
@@ -67,6 +64,13 @@ width-pins =
     ∷ case 400 (set wide-goal 34 0x04) (refuses 5 32)
     -- v is below V
     ∷ case 400 (set wide-goal 38 0x01) (refuses 5 37)
+    -- the other fields' ends are those of every version: model, T, V, flag, K
+    ∷ case 400 (set wide-goal 3 0x03) (refuses 3 3)
+    ∷ case 400 (set wide-goal 5 0x05) (refuses 3 5)
+    ∷ case 400 (set wide-goal 6 0x09) (refuses 3 6)
+    ∷ case 400 (set wide-goal 25 0x02) (refuses 5 25)
+    ∷ case 400 (set wide-goal 26 0x00) (refuses 5 26)
+    ∷ case 400 (set wide-goal 26 0x11) (refuses 5 26)
     -- the last clause is not wholly there
     ∷ case 400 (set (take 41 wide-goal) 1 39) (refuses 6 37)
     -- a byte is left over
@@ -93,14 +97,19 @@ width-pins =
     ∷ case 400 (one-wide (wide 0x03 0x00 0x00 0x00 0x01)) (refuses 4 10)
     -- in STORE
     ∷ case 400 (one-wide (wide 0x04 0x00 0x00 0x01 0x00)) (refuses 4 10)
+    ∷ case 400 (one-wide (wide 0x04 0x00 0x00 0x00 0x01)) (refuses 4 10)
     -- in FENCE
     ∷ case 400 (one-wide (wide 0x06 0x00 0x00 0x01 0x00)) (refuses 4 10)
+    ∷ case 400 (one-wide (wide 0x06 0x00 0x00 0x00 0x01)) (refuses 4 10)
     -- in XCHG
     ∷ case 400 (one-wide (wide 0x07 0x00 0x00 0x01 0x00)) (refuses 4 10)
+    ∷ case 400 (one-wide (wide 0x07 0x00 0x00 0x00 0x01)) (refuses 4 10)
     -- in JMP
     ∷ case 400 (one-wide (wide 0x09 0x00 0x00 0x01 0x00)) (refuses 4 10)
+    ∷ case 400 (one-wide (wide 0x09 0x00 0x00 0x00 0x01)) (refuses 4 10)
     -- in WFENCE
     ∷ case 400 (one-wide (wide 0x0B 0x00 0x00 0x01 0x00)) (refuses 4 10)
+    ∷ case 400 (one-wide (wide 0x0B 0x00 0x00 0x00 0x01)) (refuses 4 10)
     -- jump targets stay in the one byte b: n at most
     ∷ case 400 (one-wide (wide 0x09 0x00 0x02 0x00 0x00)) (refuses 4 10)
     ∷ case 400 (one-wide (wide 0x08 0x00 0x02 0xFF 0xFF)) (refuses 4 10)

@@ -28,9 +28,9 @@ use Rattle.rules.specs.Slot.{word-bytes, entry-bytes, buffer-bytes, buff
 use Rattle.rules.specs.Jobs.{set-0, add-0, load-x, store-r, store-x, fence, xchg-x, jeq-to, jmp-to, one-after-another, alone}
 use Rattle.rules.specs.Claims.{search-reaches, search-never, search-unknown, fences-say, replay-says, refuses, Case, case, CaseHolds, answer-reaches, answer-never, answer-unknown, same-fenced, same-replayed, same-withheld, same-end, in-turn-test, after-test, claim-test, refusal-test, decoded-test, case-test, all-right}
 use Rattle.rules.specs.GroupPins.{group-pins}
-use Rattle.rules.specs.WidthPins.{wide-slot, width-pins}
+use Rattle.rules.specs.WidthPins.{width-pins}
 use Rattle.rules.specs.WidthJobs.{wide, in-version-three, wide-sums, wide-stores, wide-jumps, wide-compares, wide-goal, one-wide, wide-thread, wide-fullest, blank-file}
-use Rattle.rules.specs.GroupJobs.{store, cmpx, wfence, load, threads-of, filed, in-version-two, low-bytes, filled, alone-slot}
+use Rattle.rules.specs.GroupJobs.{store, cmpx, wfence, load, threads-of, filed, in-version-two, low-bytes, filled, wide-slot, alone-slot}
 use Rattle.rules.specs.GroupJobs.{cmpx-twice, cmpx-zero, cmpx-of-others, cmpx-waits, cmpx-race, wfence-first, wfence-twice, wfence-between, wfence-outlives, wfence-sorted, three-groups, eight-groups, message-passing, wfence-no-fence, cmpx-fence, cmpx-no-store, cmpx-no-load, wfence-no-load, wfence-no-store}
 use Rattle.rules.specs.Pins.{p1-schedules, p1-links, count-up, no-steps, pins}
 use Rattle.rules.specs.declared.Reason.the-variants.{NoSuchStep, BufferFull}

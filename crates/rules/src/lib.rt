@@ -46,11 +46,12 @@ pub const THREADS: usize = MOST_THREADS as usize;
 
 pub const VARIABLES: usize = MOST_VARIABLES as usize;
 
-// "The longest file of version 3 is 1,389 bytes", and no other version's is longer: the head, the variables, the threads, flag, K, the clauses.
+// Request 10: a value has two bytes in every slot, and in files of version 3, where an item has five.
 pub const WORD_SIZE: usize = 2;
 
 pub const LONGEST_ITEM: usize = 3 + WORD_SIZE;
 
+// "The longest file of version 3 is 1,389 bytes", and no other version's is longer: the head, the variables, the threads, flag, K, the clauses.
 pub const LONGEST_FILE: usize = HEAD_SIZE
     + WORD_SIZE * VARIABLES
     + THREADS * (1 + LONGEST_ITEM * LONGEST_THREAD as usize)
