@@ -40,7 +40,7 @@ wide-stores =
     ∷ wide 0x04 0x03 0x00 0x00 0x00
     ∷ [])
 
--- SC, x is 0x0100: JEQ register 0 to place 3 if it is 0x0100; LOAD x into register 0; JEQ the same; JMP to place 3
+-- SC, x is 0x0100: JEQ register 0 to place 4, the end, if it is 0x0100; LOAD x into register 0; JEQ the same; JMP to place 3, its own
 unfoldable pub wide-jumps : List ℕ
 wide-jumps =
     in-version-three 0x00 0x00 0x01 (0x01 ∷ 0x00 ∷ [])
