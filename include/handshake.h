@@ -3,7 +3,7 @@
  * Each buffer is a pointer and then a length: bytes for uint8_t, numbers for uint32_t. A buffer of length 0 is never looked at and may be
  * NULL; any other points to as many elements as its length says, aligned for its type. A job may be any bytes and a buffer may be of any
  * length: nothing is asked of either, and every call ends with an answer.
- * What is written (table, links, schedule of a search, answer) overlaps no other buffer of the call. What is only read may overlap.
+ * What is written (table, links, schedule and index of a search, answer) overlaps no other buffer of the call. What is only read may overlap.
  * Nothing is kept between calls and nothing is allocated, so threads may call at the same time on buffers of their own.
  *
  * answer is never NULL: it points to four uint64_t, 32 bytes in a row, aligned for uint64_t (to 8 bytes on x86-64), and every call sets
@@ -15,7 +15,7 @@
  *   4  n above 64: that n; an instruction with a bad operation (10 and 11 are none in version 1), operand or zero byte: its first byte
  *   5  flag not 0 or 1, or K, the number of clauses, not 1 to 16: that byte; a bad clause: its first byte
  *   6  a field, instruction or clause isn't wholly there: where it begins; bytes left over: the first of them
- *   7  search only, no slot (N is 0): 0
+ *   7  the two searches only, no slot (N is 0): 0
  * 1 is judged first, then the fields from the front, of each item first whether it is wholly there; the first fault wins. 7 comes last. */
 #ifndef HANDSHAKE_H
 #define HANDSHAKE_H
@@ -38,6 +38,12 @@ extern "C" {
  *         3, N, 0, 0:           unknown: N slots do not suffice. Unknown means not ready. */
 void handshake_search(const uint8_t *job, size_t job_length, uint8_t *table, size_t table_length, uint32_t *links, size_t links_length,
                       uint8_t *schedule, size_t schedule_length, uint64_t answer[4]);
+
+/* The same search with an index, by which states are looked up faster. N is here also at most index_length / 2, rounded down, so an index of 0
+ * or 1 has no slot. At the same N answer, table, links and schedule are those of handshake_search. Nothing is asked of what the index holds:
+ * after a refusal it is unchanged, after an answer its contents are open. */
+void handshake_search_indexed(const uint8_t *job, size_t job_length, uint8_t *table, size_t table_length, uint32_t *links, size_t links_length,
+                              uint8_t *schedule, size_t schedule_length, uint32_t *index, size_t index_length, uint64_t answer[4]);
 
 /* Runs the schedule on the job.
  * answer: 0, number, offset, 0: refused

@@ -1,12 +1,15 @@
 //! One call of a public job, with all the memory that it sees.
 
+use crate::fill::Fill;
 use crate::lent::Lent;
-use second::machine::SLOT_BYTES;
+use second::index;
 use second::random::{Random, Sizes};
 
 #[derive(Clone, Copy, Debug, PartialEq, Eq)]
 pub enum Kind {
     Search,
+    /// The search with an index.
+    Indexed,
     Replay,
     Fences,
 }
@@ -19,6 +22,7 @@ pub struct Call {
     pub table: Lent<u8>,
     pub links: Lent<u32>,
     pub schedule: Lent<u8>,
+    pub index: Lent<u32>,
     pub answer: Lent<u64>,
 }
 
@@ -31,6 +35,13 @@ const NOTHING: Sizes = Sizes {
 impl Call {
     pub fn search(random: &mut Random, job: &[u8], sizes: Sizes) -> Call {
         Call::sized(random, Kind::Search, job, sizes)
+    }
+
+    pub fn indexed(random: &mut Random, job: &[u8], lent: index::Lent, fill: Fill) -> Call {
+        let mut call = Call::sized(random, Kind::Indexed, job, lent.sizes);
+        let numbers = fill.numbers(random, lent.index);
+        call.index = Lent::holding(random, &numbers);
+        call
     }
 
     pub fn replay(random: &mut Random, job: &[u8], schedule: &[u8]) -> Call {
@@ -50,14 +61,34 @@ impl Call {
             table: Lent::random(random, sizes.table),
             links: Lent::random(random, sizes.links),
             schedule: Lent::random(random, sizes.schedule),
+            index: Lent::none(),
             answer: Lent::random(random, 4),
         }
     }
 
     /// True when a search of an accepted job would be refusal 7.
     pub fn has_no_slot(&self) -> bool {
-        let slots = self.table.count() / SLOT_BYTES;
-        slots == 0 || self.links.count() == 0 || self.schedule.count() == 0
+        match self.kind {
+            Kind::Indexed => self.lent().slots() == 0,
+            Kind::Search | Kind::Replay | Kind::Fences => self.lent().slots_without_index() == 0,
+        }
+    }
+
+    /// How much is lent, the index included.
+    pub fn lent(&self) -> index::Lent {
+        let sizes = Sizes {
+            table: self.table.count(),
+            links: self.links.count(),
+            schedule: self.schedule.count(),
+        };
+        index::Lent {
+            sizes,
+            index: self.index.count(),
+        }
+    }
+
+    pub fn is_refused(&self) -> bool {
+        self.words()[0] == 0
     }
 
     pub fn words(&self) -> [u64; 4] {
@@ -82,6 +113,13 @@ impl Checker for Second {
                 call.table.part_mut(),
                 call.links.part_mut(),
                 call.schedule.part_mut(),
+            ),
+            Kind::Indexed => second::search_indexed(
+                job,
+                call.table.part_mut(),
+                call.links.part_mut(),
+                call.schedule.part_mut(),
+                call.index.part(),
             ),
             Kind::Replay => second::replay(job, call.schedule.part()),
             Kind::Fences => second::fences(job),

@@ -1,7 +1,7 @@
-//! All calls of one job: searches in several rooms, replays of several schedules, and the fence check.
+//! All calls of one job: searches in several rooms, replays of several schedules, the fence check, and searches with an index.
 
 use crate::call::Call;
-use crate::rooms::Room;
+use crate::rooms::{IndexedRoom, Room};
 use crate::{jobs, rooms, schedules};
 use second::machine::SLOT_BYTES;
 use second::random::Random;
@@ -14,6 +14,9 @@ pub trait Caller {
 
     /// The next call is a search of an accepted job in this room.
     fn next_in(&mut self, _: &Room) {}
+
+    /// The next call is a search with an index, in this room.
+    fn next_in_indexed(&mut self, _: &IndexedRoom) {}
 
     /// The first search of an accepted job has been made.
     fn first_search(&mut self, _: &First) {}
@@ -34,14 +37,48 @@ pub fn random_for(seed: u64, number: u64) -> Random {
     Random::new(Random::new(start).word())
 }
 
-pub fn every_call(random: &mut Random, number: u64, job: &[u8], caller: &mut dyn Caller) {
+/// The calls that there were before request 6; what they show is for those that it brought.
+pub fn every_call(
+    random: &mut Random,
+    number: u64,
+    job: &[u8],
+    caller: &mut dyn Caller,
+) -> Option<Levels> {
     let mut calls = Calls {
         random,
         number,
         job,
         caller,
     };
-    calls.run();
+    calls.run()
+}
+
+/// The searches with an index; `levels` is there if the job is accepted.
+pub fn every_indexed_call(
+    random: &mut Random,
+    number: u64,
+    job: &[u8],
+    levels: Option<&Levels>,
+    caller: &mut dyn Caller,
+) {
+    let rooms = match levels {
+        None => rooms::with_index_for_refused(random),
+        Some(_) if number == jobs::COUNTER => vec![rooms::over_most_with_index(random)],
+        Some(Levels { ends, are_all }) => rooms::with_index(random, ends, *are_all),
+    };
+    for room in rooms {
+        caller.next_in_indexed(&room);
+        let call = Call::indexed(random, job, room.lent, room.fill);
+        caller.make(call);
+    }
+}
+
+/// What the first search of an accepted job has counted.
+pub struct Levels {
+    /// How many states there are up to the end of each level.
+    ends: Vec<usize>,
+    /// Whether there is nothing more to count.
+    are_all: bool,
 }
 
 struct Calls<'a> {
@@ -52,13 +89,17 @@ struct Calls<'a> {
 }
 
 impl Calls<'_> {
-    fn run(&mut self) {
-        match decode(self.job) {
-            Ok(decoded) => self.accepted(&decoded),
-            Err(_) => self.refused(),
-        }
+    fn run(&mut self) -> Option<Levels> {
+        let levels = match decode(self.job) {
+            Ok(decoded) => Some(self.accepted(&decoded)),
+            Err(_) => {
+                self.refused();
+                None
+            }
+        };
         let call = Call::fences(self.random, self.job);
         self.caller.make(call);
+        levels
     }
 
     fn refused(&mut self) {
@@ -70,7 +111,7 @@ impl Calls<'_> {
         }
     }
 
-    fn accepted(&mut self, decoded: &Job) {
+    fn accepted(&mut self, decoded: &Job) -> Levels {
         let roomy = match self.number {
             jobs::COUNTER => rooms::over_most(),
             _ => rooms::roomy(self.random),
@@ -92,10 +133,14 @@ impl Calls<'_> {
             slots: &first.table.part()[..states * SLOT_BYTES],
             links,
         });
-        let ends = level_ends(links);
-        let more_rooms = match first.words() {
-            [3, ..] => rooms::within(self.random, &ends),
-            _ => rooms::about(self.random, &ends),
+        let levels = Levels {
+            ends: level_ends(links),
+            are_all: first.words()[0] != 3,
+        };
+        let more_rooms = if levels.are_all {
+            rooms::about(self.random, &levels.ends)
+        } else {
+            rooms::within(self.random, &levels.ends)
         };
         for room in more_rooms {
             self.caller.next_in(&room);
@@ -104,6 +149,7 @@ impl Calls<'_> {
         for schedule in schedules::for_accepted(self.random, self.job, decoded, found) {
             self.replay(&schedule);
         }
+        levels
     }
 
     fn search(&mut self, room: &Room) -> Call {

@@ -69,7 +69,7 @@ pub fn hold_pair(library: &dyn Checker, before: &dyn Checker, given: Pair) -> He
         ("schedule", here.schedule.difference(&there.schedule, NAMES)),
         ("table", tables_differ(&given, &found)),
     ];
-    let difference = described(here, there, NAMES, parts);
+    let difference = described(here, there, NAMES, &parts);
     HeldPair { found, difference }
 }
 
@@ -107,7 +107,7 @@ fn counted(call: &Call) -> usize {
     }
 }
 
-// ---- all calls of one job ----
+// ---- all calls of one job that there were before ----
 
 /// Compares the calls of one job that doesn't say version 3; the same seed and number give the same calls.
 pub fn one_job<'a>(

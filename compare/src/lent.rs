@@ -60,6 +60,24 @@ impl<T: Cell> Lent<T> {
         lent
     }
 
+    /// No cell and no guard, for what a call doesn't see.
+    pub fn none() -> Lent<T> {
+        Lent {
+            cells: Vec::new(),
+            first: 0,
+            count: 0,
+        }
+    }
+
+    /// The same memory with fewer cells lent: those behind are guards then.
+    pub fn cut_to(&self, count: usize) -> Lent<T> {
+        assert!(count <= self.count, "no more than there is can be lent");
+        Lent {
+            count,
+            ..self.clone()
+        }
+    }
+
     pub fn count(&self) -> usize {
         self.count
     }

@@ -1,8 +1,11 @@
 //! Holds the proved library to the second checker: the same calls over the same memory, compared whole.
 
+pub mod against_spin;
 pub mod blank;
 pub mod call;
 pub mod calls;
+pub mod chains;
+pub mod fill;
 pub mod groups;
 pub mod hold;
 pub mod jobs;
@@ -11,8 +14,10 @@ pub mod lengths;
 pub mod lent;
 pub mod library;
 pub mod one_job;
+pub mod picture;
 pub mod pieces;
 pub mod program;
+pub mod promela;
 pub mod ring;
 pub mod rooms;
 pub mod run;
@@ -20,6 +25,8 @@ pub mod schedules;
 pub mod slot;
 pub mod sums;
 pub mod tally;
+pub mod timing;
+pub mod twin;
 pub mod versions;
 pub mod walk;
 pub mod work;

@@ -2,9 +2,9 @@
 
 use crate::call::{Call, Checker, Kind};
 
-/// Declares the functions of an archive, and a checker that calls them; each slice is a pointer and then a length, the answer is four words.
+/// Declares the functions that every archive has, and a checker that calls them; each slice is a pointer and then a length, the answer is four words. What makes a search with an index is given, because not every archive has one.
 macro_rules! archive {
-    ($checker:ident, $search:ident, $replay:ident, $fences:ident) => {
+    ($checker:ident, $search:ident, $replay:ident, $fences:ident, $search_indexed:ident) => {
         extern "C" {
             fn $search(
                 job: *const u8,
@@ -46,6 +46,7 @@ macro_rules! archive {
                             schedule_len,
                             answer,
                         ),
+                        Kind::Indexed => $search_indexed(call),
                         Kind::Replay => $replay(job, job_len, schedule, schedule_len, answer),
                         Kind::Fences => $fences(job, job_len, answer),
                     }
@@ -55,6 +56,22 @@ macro_rules! archive {
     };
 }
 
+extern "C" {
+    fn handshake_search_indexed(
+        job: *const u8,
+        job_len: usize,
+        table: *mut u8,
+        table_len: usize,
+        links: *mut u32,
+        links_len: usize,
+        schedule: *mut u8,
+        schedule_len: usize,
+        index: *mut u32,
+        index_len: usize,
+        answer: *mut u64,
+    );
+}
+
 /// The library in a comparison, where it gets pointers into guarded memory.
 pub struct Library;
 
@@ -62,19 +79,51 @@ archive!(
     Library,
     handshake_search,
     handshake_replay,
-    handshake_fences
+    handshake_fences,
+    run_indexed
 );
+
+fn run_indexed(call: &mut Call) {
+    // SAFETY: as for the others.
+    unsafe {
+        handshake_search_indexed(
+            call.job.pointer(),
+            call.job.count(),
+            call.table.pointer(),
+            call.table.count(),
+            call.links.pointer(),
+            call.links.count(),
+            call.schedule.pointer(),
+            call.schedule.count(),
+            call.index.pointer(),
+            call.index.count(),
+            call.answer.pointer(),
+        );
+    }
+}
 
 /// The same of an earlier commit's archive.
 #[cfg(feature = "before")]
 pub struct Before;
 
 #[cfg(feature = "before")]
-archive!(Before, before_search, before_replay, before_fences);
+archive!(
+    Before,
+    before_search,
+    before_replay,
+    before_fences,
+    run_no_index
+);
 
-/// A search over slices by one that was declared so.
+/// It may be of a commit from before request 6.
+#[cfg(feature = "before")]
+fn run_no_index(_: &mut Call) {
+    panic!("an earlier archive is not asked for a search with an index");
+}
+
+/// A search over slices by one that was declared so, with an index or without.
 macro_rules! search_by {
-    ($name:ident, $job:ident, $table:ident, $links:ident, $schedule:ident) => {{
+    ($name:ident, $job:ident, $table:ident, $links:ident, $schedule:ident $(, $index:ident)?) => {{
         let mut answer = [u64::MAX; 4];
         // SAFETY: every pointer comes with the length of its slice, and the answer has four words.
         unsafe {
@@ -87,6 +136,7 @@ macro_rules! search_by {
                 $links.len(),
                 $schedule.as_mut_ptr(),
                 $schedule.len(),
+                $($index.as_mut_ptr(), $index.len(),)?
                 answer.as_mut_ptr(),
             );
         }
@@ -99,7 +149,18 @@ pub fn search(job: &[u8], table: &mut [u8], links: &mut [u32], schedule: &mut [u
     search_by!(handshake_search, job, table, links, schedule)
 }
 
-/// The same as an earlier commit's archive has it.
+/// The same with an index, half of whose length N is then also at most; after a refusal it is as it was, after an answer anything may stand there.
+pub fn search_indexed(
+    job: &[u8],
+    table: &mut [u8],
+    links: &mut [u32],
+    schedule: &mut [u8],
+    index: &mut [u32],
+) -> [u64; 4] {
+    search_by!(handshake_search_indexed, job, table, links, schedule, index)
+}
+
+/// The plain search as an earlier commit's archive has it.
 #[cfg(feature = "before")]
 pub fn search_before(
     job: &[u8],

@@ -73,6 +73,15 @@ fn errors_on_terminal() -> bool {
     unsafe { isatty(2) != 0 }
 }
 
+/// What is being done, in one line that the next takes the place of: a sign of life where a person looks.
+pub fn say(what: &str) {
+    if errors_on_terminal() {
+        eprint!("\r\x1b[K{what}");
+        // A terminal that can't be written to only loses its line.
+        let _ = io::stderr().flush();
+    }
+}
+
 /// At most twice a second, and always in the same line.
 fn show_progress(shown: &Mutex<Instant>, all: u64, jobs: u64, differences: u64) {
     let mut last = match shown.lock() {

@@ -1,5 +1,7 @@
-//! How much memory to lend for a search.
+//! How much memory to lend for a search, and what to put into its index.
 
+use crate::fill::Fill;
+use second::index::Lent;
 use second::machine::SLOT_BYTES;
 use second::random::{Random, Sizes};
 
@@ -8,6 +10,14 @@ use second::random::{Random, Sizes};
 pub struct Room {
     pub edge: &'static str,
     pub sizes: Sizes,
+}
+
+/// The same for a search with an index.
+#[derive(Clone, Copy, Debug)]
+pub struct IndexedRoom {
+    pub edge: &'static str,
+    pub lent: Lent,
+    pub fill: Fill,
 }
 
 pub const NO_SLOT: &str = "no slot";
@@ -20,6 +30,8 @@ pub const LEVEL_END: &str = "whole levels";
 pub const WITHIN: &str = "some of the states";
 pub const ROOMY: &str = "roomy";
 pub const OVER_MOST: &str = "over 65,536 slots";
+pub const FEW_NUMBERS: &str = "few numbers";
+pub const MANY_SLOTS: &str = "thousands of slots";
 
 /// Searches of jobs that are never done in these slots would take too long.
 const MOST_WITHIN: usize = 1024;
@@ -114,6 +126,119 @@ pub fn for_refused(random: &mut Random) -> Vec<Room> {
     }
     rooms
 }
+
+// ---- with an index ----
+
+/// More than a search ever uses, in the index too.
+pub fn over_most_with_index(random: &mut Random) -> IndexedRoom {
+    let Room { edge, sizes } = over_most();
+    let lent = Lent {
+        sizes,
+        index: 2 * 65_536 + 3,
+    };
+    filled(random, edge, lent)
+}
+
+/// Rooms with an index, about the states of the levels, which may be all that there are to count.
+pub fn with_index(random: &mut Random, level_ends: &[usize], are_all: bool) -> Vec<IndexedRoom> {
+    let mut rooms = Vec::new();
+    let states = level_ends.last().copied().unwrap_or(1);
+    // Large searches take long, so they get fewer rooms.
+    let chance = if states > 300 { 40 } else { 75 };
+    if are_all && random.percent(chance) {
+        let (edge, slots) = random.pick(&[
+            (ONE_SHORT, states - 1),
+            (JUST_ENOUGH, states),
+            (JUST_ENOUGH, states),
+            (ONE_MORE, states + 1),
+        ]);
+        let lent = lent_for(random, slots);
+        rooms.push(filled(random, edge, lent));
+    }
+    if random.percent(40) {
+        let slots = random.between(1, states.clamp(1, MOST_WITHIN));
+        let lent = lent_for(random, slots);
+        rooms.push(filled(random, WITHIN, lent));
+    }
+    if random.percent(40) && !level_ends.is_empty() {
+        let slots = random.pick(level_ends).min(MOST_WITHIN);
+        let lent = lent_for(random, slots);
+        rooms.push(filled(random, LEVEL_END, lent));
+    }
+    if random.percent(20) {
+        let slots = random.between(1, 30);
+        let lent = Lent {
+            sizes: sizes_for(random, slots),
+            index: random.below(6),
+        };
+        rooms.push(filled(random, FEW_NUMBERS, lent));
+    }
+    if !are_all && random.below(150) == 0 {
+        let slots = match random.below(100) {
+            0 => 65_536,
+            _ => random.between(2_000, 6_000),
+        };
+        let lent = lent_for(random, slots);
+        rooms.push(filled(random, MANY_SLOTS, lent));
+    }
+    if random.percent(10) {
+        rooms.push(no_slot_with_index(random));
+    }
+    rooms
+}
+
+/// Any small room with an index: a refused job leaves that as it is, too.
+pub fn with_index_for_refused(random: &mut Random) -> Vec<IndexedRoom> {
+    let slots = random.between(1, 30);
+    let lent = Lent {
+        sizes: sizes_for(random, slots),
+        index: random.pick(&[0, 1, 2, 3, slots, 2 * slots, 2 * slots + 1, 4 * slots]),
+    };
+    let mut rooms = vec![filled(random, ROOMY, lent)];
+    if random.percent(20) {
+        rooms.push(no_slot_with_index(random));
+    }
+    rooms
+}
+
+/// No slot, but not by the index alone.
+fn no_slot_with_index(random: &mut Random) -> IndexedRoom {
+    let Room { edge, sizes } = no_slot(random);
+    let lent = Lent {
+        sizes,
+        index: random.between(0, 12),
+    };
+    filled(random, edge, lent)
+}
+
+fn filled(random: &mut Random, edge: &'static str, lent: Lent) -> IndexedRoom {
+    let fill = Fill::some(random);
+    IndexedRoom { edge, lent, fill }
+}
+
+/// Makes N equal `slots`, by the index alone, by others or by all.
+fn lent_for(random: &mut Random, slots: usize) -> Lent {
+    let spare = random.pick(&[1, 1, 7, slots + 1]);
+    // A number that is half of what a slot takes.
+    let beside = random.below(2);
+    let numbers = |slots: usize| 2 * slots + beside;
+    match random.below(10) {
+        0..=4 => Lent {
+            sizes: sizes_for(random, slots + spare),
+            index: numbers(slots),
+        },
+        5..=7 => Lent {
+            sizes: sizes_for(random, slots),
+            index: numbers(slots + spare),
+        },
+        _ => Lent {
+            sizes: sizes_for(random, slots),
+            index: numbers(slots),
+        },
+    }
+}
+
+// ---- sizes ----
 
 /// Less than a slot, or no link, or no schedule byte.
 fn no_slot(random: &mut Random) -> Room {

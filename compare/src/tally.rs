@@ -3,8 +3,9 @@
 use crate::blank::Blank;
 use crate::call::{Call, Kind};
 use crate::calls::First;
+use crate::fill::{Fill, FILLS};
 use crate::pieces::{decides_alone, PIECES};
-use crate::rooms::{self, Room};
+use crate::rooms::{self, IndexedRoom, Room};
 use crate::run::Counts;
 use crate::schedules::LONG;
 use crate::{groups, lengths, sums};
@@ -13,7 +14,7 @@ use second::long_threads::{ends_high, HIGH_END, HIGH_GOAL};
 use second::machine::{Reason, SLOT_BYTES};
 use second::version_three::{self, WIDE_CLAUSE, WIDE_K};
 use second::version_two::{self, Searched, WITH_CMPX, WITH_WFENCE};
-use second::{dead_code, long_threads, reasons, Job};
+use second::{dead_code, index, long_threads, reasons, Job};
 use std::collections::BTreeMap;
 
 type Class = (&'static str, &'static str);
@@ -63,6 +64,22 @@ const WIDE_REFUSED: &str = "wide values, refused";
 const WIDE_SLOTS: &str = "wide values, slots";
 const WIDE_REPLAYS: &str = "wide values, replays";
 const PIECE_ALONE: &str = "one piece apart";
+const INDEX_ROOM: &str = "index, rooms";
+const INDEX_LENGTH: &str = "index, lengths";
+const INDEX_DECIDING: &str = "index, N";
+const INDEX_FILL: &str = "index, fills";
+const INDEX_REFILL: &str = "index, other fills";
+const INDEX_ANSWER: &str = "index, answers";
+const INDEX_REFUSED: &str = "index, refused by";
+const INDEX_KEPT: &str = "index, kept at";
+const INDEX_MODELS: [&str; 3] = ["index, SC", "index, TSO", "index, PSO"];
+const INDEX_VERSIONS: [&str; 3] = ["index, version 1", "index, version 2", "index, version 3"];
+const INDEX_HELD: &str = "index, held to";
+const INDEX_IN_BOTH: &str = "index, in both";
+const TO_PLAIN: &str = "the plain search";
+const TO_ITSELF: &str = "itself over what it left";
+const TO_REFILLED: &str = "itself with another fill";
+const FOUND: [&str; 3] = ["reachable", "unreachable", "unknown"];
 
 /// The sections of a version that has CMPX and WFENCE.
 struct Newer {
@@ -96,7 +113,7 @@ const THREE: Newer = Newer {
 };
 
 /// Every class that is named in the summary, in its order.
-const SECTIONS: [(&str, &[&str]); 54] = [
+const SECTIONS: [(&str, &[&str]); 70] = [
     (JOBS, &["accepted", "refused"]),
     (VERSIONS, &["1", "2", "3"]),
     (LENGTHS, &lengths::OF_FILES),
@@ -274,11 +291,62 @@ const SECTIONS: [(&str, &[&str]); 54] = [
     (STUCK[1], &reasons::NEIGHBOURS),
     (STUCK[2], &reasons::NEIGHBOURS),
     (FENCES, &["refused", "FENCED", "OPEN"]),
-    ("calls", &["search", "replay", "fence check"]),
+    (
+        INDEX_ROOM,
+        &[
+            rooms::OVER_MOST,
+            rooms::MANY_SLOTS,
+            rooms::WITHIN,
+            rooms::LEVEL_END,
+            rooms::NO_SLOT,
+            rooms::FEW_NUMBERS,
+            rooms::ONE_SHORT,
+            rooms::JUST_ENOUGH,
+            rooms::ONE_MORE,
+        ],
+    ),
+    (INDEX_LENGTH, &index::OF_LENGTHS),
+    (INDEX_DECIDING, &index::DECIDING),
+    (
+        INDEX_FILL,
+        &[
+            FILLS[0].name(),
+            FILLS[1].name(),
+            FILLS[2].name(),
+            FILLS[3].name(),
+        ],
+    ),
+    (
+        INDEX_REFILL,
+        &[
+            FILLS[0].name(),
+            FILLS[1].name(),
+            FILLS[2].name(),
+            FILLS[3].name(),
+        ],
+    ),
+    (INDEX_ANSWER, &index::OF_ANSWERS),
+    (INDEX_REFUSED, &["1", "2", "3", "4", "5", "6", "7"]),
+    (INDEX_KEPT, &index::REFUSED_WITH_NUMBERS),
+    (INDEX_MODELS[0], &FOUND),
+    (INDEX_MODELS[1], &FOUND),
+    (INDEX_MODELS[2], &FOUND),
+    (INDEX_VERSIONS[0], &FOUND),
+    (INDEX_VERSIONS[1], &FOUND),
+    (INDEX_VERSIONS[2], &FOUND),
+    (INDEX_HELD, &[TO_PLAIN, TO_REFILLED, TO_ITSELF]),
+    (
+        INDEX_IN_BOTH,
+        &["refused", "reachable", "unreachable", "unknown"],
+    ),
+    (
+        "calls",
+        &["search", "replay", "fence check", "search with an index"],
+    ),
 ];
 
 /// Sections whose classes are numbers themselves, or end in one.
-const NUMBERED: [&str; 15] = [
+const NUMBERED: [&str; 19] = [
     VERSIONS,
     LENGTHS,
     TWO.under,
@@ -294,6 +362,10 @@ const NUMBERED: [&str; 15] = [
     STUCK_BY[1],
     STUCK_BY[2],
     FULL_AT,
+    INDEX_LENGTH,
+    INDEX_REFUSED,
+    INDEX_FILL,
+    INDEX_REFILL,
 ];
 
 #[derive(Clone, Debug, Default, PartialEq, Eq)]
@@ -521,10 +593,33 @@ impl Tally {
         self.count(DISTANCE, class);
     }
 
-    /// What was answered; the job is there when it was accepted.
-    pub fn call(&mut self, call: &Call, job: Option<&Job>) {
+    /// A search with an index, of a job that is accepted or is not.
+    pub fn indexed_room(&mut self, room: &IndexedRoom, is_accepted: bool) {
+        if is_accepted {
+            self.count(INDEX_ROOM, room.edge);
+            self.count(INDEX_DECIDING, index::deciding(&room.lent));
+        }
+        self.count(INDEX_LENGTH, index::of_length(room.lent.index));
+        self.count(INDEX_FILL, room.fill.name());
+    }
+
+    /// A search with an index that was made again with another fill, and over what it left.
+    pub fn indexed_again(&mut self, fill: Fill) {
+        self.count(INDEX_REFILL, fill.name());
+        self.count(INDEX_HELD, TO_REFILLED);
+        self.count(INDEX_HELD, TO_ITSELF);
+    }
+
+    /// A search with an index that was made again without one.
+    pub fn indexed_and_plain(&mut self) {
+        self.count(INDEX_HELD, TO_PLAIN);
+    }
+
+    /// What was answered; the job is there when it was accepted, and how many slots it takes not to be unknown when that is known.
+    pub fn call(&mut self, call: &Call, job: Option<&Job>, needed: Option<usize>) {
         match call.kind {
             Kind::Search => self.search(call.words(), job),
+            Kind::Indexed => self.indexed(call, job, needed),
             Kind::Replay => self.replay(call, job),
             Kind::Fences => self.fences(call.words()),
         }
@@ -533,7 +628,11 @@ impl Tally {
 
     /// What was answered to a call that the library was given in both versions.
     pub fn call_in_both_versions(&mut self, call: &Call) {
-        self.count(IN_BOTH_VERSIONS, answer_class(call));
+        let section = match call.kind {
+            Kind::Indexed => INDEX_IN_BOTH,
+            Kind::Search | Kind::Replay | Kind::Fences => IN_BOTH_VERSIONS,
+        };
+        self.count(section, answer_class(call));
     }
 
     /// A search that finds a way, or a replay, which ends above place 32.
@@ -557,6 +656,8 @@ impl Tally {
                     self.count(BLANK, "searches without a slot");
                 }
             }
+            // Those are counted with the other refusals of such searches.
+            Kind::Indexed => {}
             Kind::Replay => self.count(BLANK, "replays"),
             Kind::Fences => self.count(BLANK, "fence checks"),
         }
@@ -573,6 +674,23 @@ impl Tally {
             let class = search_class(kind);
             self.count(MODELS[job.model as usize], class);
             self.count(VERSION_SEARCHES[usize::from(job.version) - 1], class);
+        }
+    }
+
+    fn indexed(&mut self, call: &Call, job: Option<&Job>, needed: Option<usize>) {
+        self.count("calls", "search with an index");
+        let words = call.words();
+        let classes = index::of_answer(&call.lent(), words, needed);
+        self.count_those_of(INDEX_ANSWER, &classes);
+        self.count_those_of(INDEX_KEPT, &classes);
+        match (words, job) {
+            ([0, number, ..], _) => self.count(INDEX_REFUSED, NUMBERS[number as usize]),
+            ([kind, ..], Some(job)) => {
+                let class = search_class(kind);
+                self.count(INDEX_MODELS[job.model as usize], class);
+                self.count(INDEX_VERSIONS[usize::from(job.version) - 1], class);
+            }
+            (_, None) => {}
         }
     }
 
@@ -641,7 +759,7 @@ pub fn answer_class(call: &Call) -> &'static str {
     let [kind, ..] = call.words();
     match (call.kind, kind) {
         (_, 0) => "refused",
-        (Kind::Search, _) => search_class(kind),
+        (Kind::Search | Kind::Indexed, _) => search_class(kind),
         (Kind::Replay, _) => replay_class(kind),
         (Kind::Fences, _) => fences_class(kind),
     }

@@ -1,6 +1,6 @@
 //! The library as its user meets it: a job's bytes, lent slices, four words back.
 
-use compare::library::{fences, replay, search};
+use compare::library::{fences, replay, search, search_indexed};
 use compare::ring::BENCH_SLOTS;
 use second::job::{item, Item, Value};
 use second::listed::{
@@ -1432,4 +1432,247 @@ fn k_is_65535_at_most_in_every_instruction_that_has_it() {
         assert_eq!(replay(&job, &[0]), REACHES, "{instruction:?}");
         assert_eq!(run(&job, 2).answer, [1, 1, 2, 0], "{instruction:?}");
     }
+}
+
+// ---- the search with an index ----
+
+/// Table bytes, links and schedule bytes.
+type Sizes = (usize, usize, usize);
+
+/// More than P1 needs of each.
+const ENOUGH: Sizes = (40 * SLOT_BYTES, 40, 40);
+
+/// What such a search leaves behind, and the index as it leaves it.
+fn run_indexed(job: &[u8], (table, links, schedule): Sizes, index: Vec<u32>) -> (Run, Vec<u32>) {
+    let mut run = Run {
+        answer: [9; 4],
+        table: vec![TABLE_MARK; table],
+        links: vec![LINK_MARK; links],
+        schedule: vec![SCHEDULE_MARK; schedule],
+    };
+    let mut index = index;
+    run.answer = search_indexed(
+        job,
+        &mut run.table,
+        &mut run.links,
+        &mut run.schedule,
+        &mut index,
+    );
+    (run, index)
+}
+
+/// Indexes of a length: numbers that could be those of slots, from 0 and from 1 on, all 0, all ones, and any.
+fn indexes(count: usize) -> [Vec<u32>; 5] {
+    [
+        (0..).take(count).collect(),
+        (1..).take(count).collect(),
+        vec![0; count],
+        vec![u32::MAX; count],
+        (0..)
+            .take(count)
+            .map(|i: u32| i.wrapping_mul(0x9E37_79B9))
+            .collect(),
+    ]
+}
+
+#[test]
+fn p1_whole_with_an_index() {
+    for count in [44, 45, 46, 80, 81, 1000] {
+        for index in indexes(count) {
+            let (run, _) = run_indexed(&P1, ENOUGH, index);
+            assert_eq!(run.answer, [1, 4, 22, 0], "{count}");
+            assert_eq!(run.table[..22 * SLOT_BYTES], first_p1_slots(22));
+            assert_eq!(run.links[..22], first_p1_links(22));
+            assert_eq!(run.schedule[..4], [0, 0, 1, 1]);
+            assert!(run.wrote_no_more_than(22, 4));
+        }
+    }
+}
+
+#[test]
+fn n_is_at_most_half_the_index_rounded_down() {
+    for (count, slots) in [
+        (2, 1),
+        (3, 1),
+        (4, 2),
+        (5, 2),
+        (6, 3),
+        (41, 20),
+        (42, 21),
+        (43, 21),
+    ] {
+        for index in indexes(count) {
+            let (run, _) = run_indexed(&P1, ENOUGH, index);
+            assert_eq!(run.answer, [3, slots as u64, 0, 0], "{count}");
+            assert_eq!(run.table[..slots * SLOT_BYTES], first_p1_slots(slots));
+            assert_eq!(run.links[..slots], first_p1_links(slots));
+            assert!(run.wrote_no_more_than(slots, 0));
+        }
+    }
+}
+
+#[test]
+fn an_index_of_0_or_1_has_no_slot_and_stays() {
+    for index in [vec![], vec![0], vec![1], vec![u32::MAX]] {
+        for sizes in [ENOUGH, (SLOT_BYTES, 1, 1), (0, 0, 0)] {
+            let (run, left) = run_indexed(&P1, sizes, index.clone());
+            assert_eq!(run.answer, [0, 7, 0, 0]);
+            assert!(run.wrote_no_more_than(0, 0));
+            assert_eq!(left, index);
+        }
+    }
+}
+
+#[test]
+fn the_smallest_of_the_four_decides() {
+    let eight = 8 * SLOT_BYTES;
+    for (sizes, count, slots) in [
+        ((eight, 8, 8), 14, 7),
+        ((eight, 8, 8), 15, 7),
+        ((eight - 1, 8, 8), 16, 7),
+        ((eight, 7, 8), 17, 7),
+        ((eight, 8, 7), 16, 7),
+        ((eight - 1, 9, 9), 1000, 7),
+        ((eight, 8, 8), 16, 8),
+    ] {
+        for index in indexes(count) {
+            let (run, _) = run_indexed(&P1, sizes, index);
+            assert_eq!(run.answer, [3, slots as u64, 0, 0], "{sizes:?} {count}");
+            assert_eq!(run.table[..slots * SLOT_BYTES], first_p1_slots(slots));
+            assert!(run.wrote_no_more_than(slots, 0));
+        }
+    }
+}
+
+#[test]
+fn refusals_come_before_no_slot_and_leave_the_index() {
+    let cases = [
+        (vec![], 1, 0),
+        (with_byte(&P1, 1, 0x2A), 1, 0),
+        (vec![0, 1, 0], 2, 2),
+        (with_byte(&P1, 4, 9), 3, 4),
+        (with_byte(&P1, 10, 0x0A), 4, 10),
+        (with_goal(&[0, 0]), 5, 28),
+        (with_byte(&P1, 41, 4), 5, 41),
+        (settled([&P1[..], &[0]].concat()), 6, 45),
+        (in_version(&[0, 1, 0], 3), 6, 3),
+    ];
+    for (job, number, offset) in cases {
+        for count in [0, 1, 2, 7, 44, 1000] {
+            for sizes in [ENOUGH, (0, 0, 0)] {
+                for index in indexes(count) {
+                    let (run, left) = run_indexed(&job, sizes, index.clone());
+                    assert_eq!(run.answer, [0, number, offset, 0], "{job:?}");
+                    assert!(run.wrote_no_more_than(0, 0));
+                    assert_eq!(left, index);
+                }
+            }
+        }
+    }
+}
+
+#[test]
+fn no_slot_by_the_others_leaves_the_index() {
+    for sizes in [
+        (SLOT_BYTES - 1, 9, 9),
+        (0, 9, 9),
+        (1520, 0, 9),
+        (1520, 9, 0),
+    ] {
+        for count in [2, 3, 1000] {
+            for index in indexes(count) {
+                let (run, left) = run_indexed(&P1, sizes, index.clone());
+                assert_eq!(run.answer, [0, 7, 0, 0]);
+                assert!(run.wrote_no_more_than(0, 0));
+                assert_eq!(left, index);
+            }
+        }
+    }
+}
+
+/// That all is as the plain search leaves it in as many links as there are slots.
+fn assert_as_without_index(job: &[u8], sizes: Sizes, index: Vec<u32>) {
+    let (table, links, schedule) = sizes;
+    let slots = (index.len() / 2).min(links);
+    let (with, _) = run_indexed(job, sizes, index);
+    let without = run_sized(job, table, slots, schedule);
+    assert_eq!(with.answer, without.answer, "{slots} slots, {job:?}");
+    assert_eq!(with.table, without.table, "{slots} slots, {job:?}");
+    assert_eq!(with.links[..slots], without.links, "{slots} slots, {job:?}");
+    assert!(with.links[slots..].iter().all(|&link| link == LINK_MARK));
+    assert_eq!(with.schedule, without.schedule, "{slots} slots, {job:?}");
+}
+
+#[test]
+fn the_bench_list_is_searched_as_without_an_index_at_each_n() {
+    for job in accepted_list() {
+        let states = match run(&job, BENCH_SLOTS).answer {
+            [1, _, states, _] | [2, states, ..] => states as usize,
+            answer => panic!("{answer:?}"),
+        };
+        for count in 0..=2 * states + 3 {
+            let sizes = ((states + 2) * SLOT_BYTES, states + 2, states + 2);
+            for version in [job.clone(), in_version(&job, 2), raised(&job)] {
+                let index = indexes(count).into_iter().nth(count % 5);
+                assert_as_without_index(&version, sizes, index.unwrap());
+            }
+        }
+    }
+}
+
+#[test]
+fn jobs_that_are_never_done_are_searched_as_without_an_index() {
+    let sizes = (300 * SLOT_BYTES, 300, 300);
+    for job in [
+        at_the_limit(),
+        at_the_limit_of_two(),
+        at_the_limit_of_three(),
+    ] {
+        for count in [599, 600, 601] {
+            for index in indexes(count) {
+                assert_as_without_index(&job, sizes, index);
+            }
+        }
+    }
+}
+
+#[test]
+fn a_search_in_what_another_has_left_answers_as_the_first() {
+    let (mut run, mut index) = run_indexed(&P1, ENOUGH, vec![7; 60]);
+    let first = (run.answer, run.table.clone(), run.links.clone());
+    for _ in 0..2 {
+        let answer = search_indexed(
+            &P1,
+            &mut run.table,
+            &mut run.links,
+            &mut run.schedule,
+            &mut index,
+        );
+        assert_eq!((answer, run.table.clone(), run.links.clone()), first);
+        assert!(run.wrote_no_more_than(22, 4));
+    }
+    // Another job in the same memory: P2 has 13 states.
+    let answer = search_indexed(
+        &p(2),
+        &mut run.table,
+        &mut run.links,
+        &mut run.schedule,
+        &mut index,
+    );
+    assert_eq!(answer, [2, 13, 0, 0]);
+    let (alone, _) = run_indexed(&p(2), ENOUGH, vec![7; 60]);
+    let of_p2 = 13 * SLOT_BYTES;
+    assert_eq!(run.table[..of_p2], alone.table[..of_p2]);
+    assert_eq!(run.table[of_p2..], first.1[of_p2..]);
+}
+
+#[test]
+fn empty_slices_are_no_special_case_with_an_index_either() {
+    let answer =
+        |job: &[u8], index: &mut [u32]| search_indexed(job, &mut [], &mut [], &mut [], index);
+    assert_eq!(answer(&P1, &mut []), [0, 7, 0, 0]);
+    assert_eq!(answer(&P1, &mut [1, 2]), [0, 7, 0, 0]);
+    assert_eq!(answer(&[], &mut []), [0, 1, 0, 0]);
+    let (run, _) = run_indexed(&p(10), (SLOT_BYTES, 1, 1), vec![0, 0]);
+    assert_eq!(run.answer, [1, 0, 1, 0]);
 }

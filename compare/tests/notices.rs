@@ -2,7 +2,8 @@
 
 use compare::blank::{self, Blank};
 use compare::call::{Call, Checker, Kind, Second};
-use compare::hold::{hold, hold_versions};
+use compare::fill::{Fill, FILLS};
+use compare::hold::{hold, hold_over_left, hold_plain, hold_refilled, hold_versions};
 use compare::lent::Lent;
 use compare::pieces::{decides_alone, PIECES};
 use compare::run::{run, Counts, Plan, Report};
@@ -22,7 +23,7 @@ use second::replay::{follow, follow_until_stuck};
 use second::version_three::{self, WIDE_CLAUSE, WIDE_K};
 use second::version_three_jobs::{FENCE, WFENCE};
 use second::version_two::{self, is_compare_exchange, is_wfence, Searched};
-use second::{dead_code, decode, long_threads, reasons, Job, Refusal};
+use second::{dead_code, decode, index, long_threads, reasons, Job, Refusal};
 use std::collections::BTreeSet;
 use std::ops::Range;
 use std::rc::Rc;
@@ -53,7 +54,7 @@ fn report_from(library: &dyn Checker, first: u64, jobs: u64, threads: usize) -> 
     run(library, plan, &|_, _| {})
 }
 
-/// Jobs that every class of the summary is met in, but for one.
+/// Jobs that every class of the summary is met in, but for two.
 const MANY: u64 = 8000;
 
 /// The tally of so many, which several tests look at.
@@ -71,11 +72,14 @@ fn first_difference(spoil: impl Fn(&mut Call) + Sync) -> String {
 }
 
 fn first_difference_of(jobs: u64, spoil: impl Fn(&mut Call) + Sync) -> String {
-    let liar = Spoiling(spoil);
+    first_difference_by(jobs, &Spoiling(spoil))
+}
+
+fn first_difference_by(jobs: u64, liar: &dyn Checker) -> String {
     // A part at a time, because most are noticed soon.
     let mut parts = (0..jobs).step_by(100);
     let differences =
-        parts.find_map(|first| report_from(&liar, first, 100, 1).kept.into_iter().next());
+        parts.find_map(|first| report_from(liar, first, 100, 1).kept.into_iter().next());
     differences.expect("nothing was noticed").text
 }
 
@@ -1997,6 +2001,410 @@ fn a_replay_that_errs_only_where_values_are_wide() {
     }
 }
 
+// ---- the search with an index ----
+
+/// Searches with an index by the second checker at an N that is given, and spoils nothing else.
+struct InSlots<F>(F);
+
+impl<F: Fn(index::Lent) -> usize + Sync> Checker for InSlots<F> {
+    fn run(&self, call: &mut Call) {
+        if call.kind != Kind::Indexed {
+            return Second.run(call);
+        }
+        let lent = call.lent();
+        let slots = (self.0)(lent).min(lent.slots_without_index());
+        // As many links as slots make the plain search have this N.
+        let words = second::search(
+            call.job.part(),
+            call.table.part_mut(),
+            &mut call.links.part_mut()[..slots],
+            call.schedule.part_mut(),
+        );
+        set_answer(call, words);
+    }
+}
+
+/// A spoil of searches with an index alone.
+fn indexed(spoil: impl Fn(&mut Call) + Sync) -> impl Fn(&mut Call) + Sync {
+    move |call| {
+        if call.kind == Kind::Indexed {
+            spoil(call);
+        }
+    }
+}
+
+#[test]
+fn a_right_stand_in_for_the_index_has_no_difference() {
+    let right = InSlots(|lent: index::Lent| lent.index / 2);
+    assert_eq!(report(&right, 1000, 1).differences, 0);
+    // What stands in the index after an answer is open.
+    let writes = Spoiling(indexed(|call| {
+        if !call.is_refused() {
+            call.index.part_mut().fill(12_345);
+        }
+    }));
+    assert_eq!(report(&writes, 1000, 1).differences, 0);
+}
+
+#[test]
+fn an_index_that_makes_another_n() {
+    let wrong: [fn(index::Lent) -> usize; 6] = [
+        |lent| lent.index,
+        |lent| (lent.index + 1) / 2,
+        |lent| lent.slots_without_index(),
+        |lent| lent.index / 4,
+        |lent| (lent.index / 2).saturating_sub(1),
+        // An index of length 0 taken for none.
+        |lent| match lent.index {
+            0 => lent.slots_without_index(),
+            index => index / 2,
+        },
+    ];
+    for slots in wrong {
+        let text = first_difference_by(200, &InSlots(slots));
+        assert!(text.contains("and an index of"), "{text}");
+        assert!(text.contains("  answer: first difference at"), "{text}");
+    }
+}
+
+/// Whose first difference is in the index, and where.
+fn notices_index(at: &str, jobs: u64, spoil: impl Fn(&mut Call) + Sync) {
+    let text = first_difference_of(jobs, indexed(spoil));
+    let said = format!("  index: first difference at {at}");
+    assert!(text.contains(&said), "'{said}' is not in\n{text}");
+}
+
+fn change(number: Option<&mut u32>) {
+    if let Some(number) = number {
+        *number ^= 1;
+    }
+}
+
+#[test]
+fn an_index_written_on_a_refusal() {
+    for number in 1..=7 {
+        let refused = |call: &Call| call.words()[..2] == [0, number];
+        notices_index("0: library", 1000, |call| {
+            if refused(call) {
+                change(call.index.part_mut().first_mut());
+            }
+        });
+        notices_index("", 1000, |call| {
+            if refused(call) {
+                change(call.index.part_mut().last_mut());
+            }
+        });
+        // Cleared before the refusal is known.
+        notices_index("", 1000, |call| {
+            if refused(call) {
+                call.index.part_mut().fill(0);
+            }
+        });
+    }
+}
+
+#[test]
+fn a_touched_guard_of_an_index() {
+    for kind in 0..=3 {
+        let of_kind = |call: &Call| call.words()[0] == kind;
+        notices_index("-", 200, |call| {
+            if of_kind(call) {
+                change(call.index.whole_mut().first_mut());
+            }
+        });
+        let text = first_difference(indexed(|call| {
+            if of_kind(call) {
+                change(call.index.whole_mut().last_mut());
+            }
+        }));
+        assert!(text.contains("index: first difference at"), "{text}");
+        assert!(text.contains("(outside of what was lent)"), "{text}");
+        // The number next behind those lent, and the one before the first.
+        for beside in [-1, 0] {
+            notices_index("", 200, |call| {
+                if of_kind(call) {
+                    let count = call.index.count();
+                    let at = if beside < 0 { -1 } else { count as isize };
+                    // SAFETY: the pointer may reach the guards, which are longer than this.
+                    unsafe { *call.index.pointer().offset(at) ^= 1 };
+                }
+            });
+        }
+    }
+}
+
+#[test]
+fn what_is_wrong_with_an_index_alone() {
+    let table = first_difference(indexed(|call| {
+        let end = slots(call) * SLOT_BYTES;
+        if end > 0 {
+            flip(call.table.part_mut().get_mut(end - 1));
+        }
+    }));
+    assert!(table.contains("table: first difference at"), "{table}");
+    let behind = first_difference(indexed(|call| {
+        let end = slots(call) * SLOT_BYTES;
+        if end > 0 {
+            flip(call.table.part_mut().get_mut(end));
+        }
+    }));
+    assert!(behind.contains("table: first difference at"), "{behind}");
+    let links = first_difference(indexed(|call| {
+        let count = slots(call);
+        if count > 1 {
+            call.links.part_mut()[count - 1] ^= 64;
+        }
+    }));
+    assert!(links.contains("links: first difference at"), "{links}");
+    let schedule = first_difference(indexed(|call| {
+        if let [1, distance, ..] = call.words() {
+            flip(call.schedule.part_mut()[..distance as usize].last_mut());
+        }
+    }));
+    assert!(
+        schedule.contains("schedule: first difference at"),
+        "{schedule}"
+    );
+    let unknown = first_difference(indexed(|call| {
+        if let [3, states, ..] = call.words() {
+            set_answer(call, [2, states, 0, 0]);
+        }
+    }));
+    assert!(unknown.contains("library 2, second checker 3"), "{unknown}");
+}
+
+#[test]
+fn no_slot_by_the_index_told_before_another_refusal() {
+    for number in 1..=6 {
+        let text = first_difference_of(
+            1000,
+            indexed(|call| {
+                let [kind, refused_by, ..] = call.words();
+                if [kind, refused_by] == [0, number] && call.has_no_slot() {
+                    set_answer(call, [0, 7, 0, 0]);
+                }
+            }),
+        );
+        let said = format!("answer: first difference at 1: library 7, second checker {number}");
+        assert!(text.contains(&said), "{text}");
+    }
+}
+
+/// A search with an index in a thousand slots of which P1 takes 22, with this before in the index.
+fn indexed_search_of_p1(index: usize, fill: Fill) -> Call {
+    let lent = index::Lent {
+        sizes: Sizes {
+            table: 40 * SLOT_BYTES,
+            links: 30,
+            schedule: 50,
+        },
+        index,
+    };
+    Call::indexed(&mut Random::new(1), &P1, lent, fill)
+}
+
+/// The answers of a stand-in that has to be right where it is held to the second checker.
+fn found_by(library: &dyn Checker, call: &Call) -> Call {
+    let held = hold(library, call.clone());
+    assert_eq!(held.difference, None);
+    held.found
+}
+
+#[test]
+fn a_search_with_an_index_is_held_to_the_plain_one() {
+    // N is 0, unknown, just enough, and by the links.
+    for (index, answer) in [
+        (0, [0, 7, 0, 0]),
+        (1, [0, 7, 0, 0]),
+        (43, [3, 21, 0, 0]),
+        (44, [1, 4, 22, 0]),
+        (1000, [1, 4, 22, 0]),
+    ] {
+        let call = indexed_search_of_p1(index, Fill::Small);
+        let found = found_by(&Second, &call);
+        assert_eq!(found.words(), answer, "{index}");
+        assert_eq!(hold_plain(&Second, &call, &found), None);
+    }
+    let call = indexed_search_of_p1(45, Fill::Small);
+    let found = found_by(&Second, &call);
+    let of_plain = |spoil: fn(&mut Call)| {
+        let liar = Spoiling(move |call: &mut Call| {
+            if call.kind == Kind::Search {
+                spoil(call);
+            }
+        });
+        let text = hold_plain(&liar, &call, &found);
+        text.expect("this is noticed")
+    };
+    let answer = of_plain(|call| call.answer.part_mut()[2] += 1);
+    for line in [
+        "search with 6080 table bytes, 30 links, 50 schedule bytes and an index of 45",
+        "  without an index 1 4 23 0",
+        "  with an index 1 4 22 0",
+        "answer: first difference at 2: without an index 23, with an index 22",
+    ] {
+        assert!(answer.contains(line), "'{line}' is not in\n{answer}");
+    }
+    assert!(of_plain(|call| call.table.part_mut()[0] ^= 1).contains("table: first difference at 0"));
+    assert!(
+        of_plain(|call| call.links.part_mut()[21] ^= 1).contains("links: first difference at 21")
+    );
+    assert!(of_plain(|call| call.schedule.part_mut()[4] ^= 1)
+        .contains("schedule: first difference at 4"));
+    // A link behind those that the plain search is lent.
+    let behind = of_plain(|call| {
+        let last = call.links.whole_mut().last_mut();
+        change(last);
+    });
+    assert!(behind.contains("links: first difference at"), "{behind}");
+}
+
+#[test]
+fn an_answer_that_hangs_on_what_stands_in_the_index() {
+    // Such as could be taken for slots, for nothing, or for the end.
+    for met in [0, 1, u32::MAX] {
+        let text = first_difference_by(200, &MisledBy(met));
+        assert!(text.contains("and an index of"), "{text}");
+    }
+    // Held to another fill alone.
+    let call = indexed_search_of_p1(44, Fill::Ones);
+    let found = found_by(&MisledBy(0), &call);
+    let refilled = |numbers: &[u32]| hold_refilled(&MisledBy(0), &call, numbers, &found);
+    assert_eq!(refilled(&[u32::MAX; 44]), None);
+    assert_eq!(refilled(&[7; 44]), None);
+    let text = refilled(&[0; 44]).expect("this is noticed");
+    assert!(
+        text.contains("answer: first difference at 2: with another index 21, with one index 22"),
+        "{text}"
+    );
+}
+
+/// Takes this number of the index for a state's if it is there, and so counts one too few.
+struct MisledBy(u32);
+
+impl Checker for MisledBy {
+    fn run(&self, call: &mut Call) {
+        let is_met = call.index.part().contains(&self.0);
+        Second.run(call);
+        if let ([1, ..], true) = (call.words(), is_met) {
+            call.answer.part_mut()[2] -= 1;
+        }
+    }
+}
+
+/// Puts a number into the index, and is misled by it when it finds it there.
+struct MisledByItself;
+
+const OWN: u32 = 77_777;
+
+impl Checker for MisledByItself {
+    fn run(&self, call: &mut Call) {
+        MisledBy(OWN).run(call);
+        if let (false, Some(number)) = (call.is_refused(), call.index.part_mut().first_mut()) {
+            *number = OWN;
+        }
+    }
+}
+
+#[test]
+fn an_answer_that_hangs_on_what_the_search_has_left() {
+    let text = first_difference_by(200, &MisledByItself);
+    assert!(text.contains("  once more 1 "), "{text}");
+    let call = indexed_search_of_p1(44, Fill::Any);
+    let found = found_by(&MisledByItself, &call);
+    assert_eq!(hold_over_left(&Second, &found), None);
+    let text = hold_over_left(&MisledByItself, &found).expect("this is noticed");
+    assert!(
+        text.contains("answer: first difference at 2: once more 21, once 22"),
+        "{text}"
+    );
+}
+
+#[test]
+fn an_index_written_on_a_refusal_is_noticed_when_the_call_is_made_again() {
+    let call = indexed_search_of_p1(1, Fill::Any);
+    let found = found_by(&Second, &call);
+    assert_eq!(found.words(), [0, 7, 0, 0]);
+    let writes = Spoiling(|call: &mut Call| change(call.index.part_mut().first_mut()));
+    for text in [
+        hold_refilled(&writes, &call, &[5], &found),
+        hold_over_left(&writes, &found),
+    ] {
+        let text = text.expect("this is noticed");
+        assert!(text.contains("  index: first difference at 0"), "{text}");
+    }
+    assert_eq!(hold_refilled(&Second, &call, &[5], &found), None);
+}
+
+#[test]
+fn every_fill_is_what_its_name_says() {
+    let mut random = Random::new(5);
+    let [any, small, zeros, ones] = FILLS.map(|fill| fill.numbers(&mut random, 100));
+    assert!(any.iter().any(|&number| number > 1 << 31));
+    assert!(small.iter().all(|&number| number <= 100));
+    let like_slots = small.iter().filter(|&&number| number < 50).count();
+    assert!((30..70).contains(&like_slots), "{like_slots}");
+    assert_eq!(zeros, [0; 100]);
+    assert_eq!(ones, [u32::MAX; 100]);
+}
+
+#[test]
+fn a_search_with_an_index_is_told_in_full() {
+    let call = indexed_search_of_p1(45, Fill::Zeros);
+    let liar = Spoiling(|call: &mut Call| {
+        call.table.part_mut()[153] = 9;
+        call.answer.part_mut()[1] = 5;
+    });
+    let text = hold(&liar, call).difference.expect("both spoils show");
+    for line in [
+        "search with 6080 table bytes, 30 links, 50 schedule bytes and an index of 45",
+        "job 00 2B 01 01 01 02 02",
+        "library 1 5 22 0",
+        "second checker 1 4 22 0",
+        "table: first difference at 153: library 9, second checker 0",
+    ] {
+        assert!(text.contains(line), "'{line}' is not in\n{text}");
+    }
+}
+
+#[test]
+fn no_class_of_an_index_is_met_by_chance_alone() {
+    let tally = many();
+    let met_more_than = |floor: u64, section: &'static str, classes: &[&'static str]| {
+        for class in classes {
+            let count = tally.counted(section, class);
+            assert!(count > floor, "only {count} of {section}: {class}");
+        }
+    };
+    let fills = FILLS.map(Fill::name);
+    met_more_than(400, "index, lengths", &index::OF_LENGTHS);
+    met_more_than(400, "index, N", &index::DECIDING);
+    met_more_than(2000, "index, fills", &fills);
+    met_more_than(2000, "index, other fills", &fills);
+    met_more_than(150, "index, answers", &index::OF_ANSWERS);
+    met_more_than(100, "index, kept at", &index::REFUSED_WITH_NUMBERS);
+    let found = ["reachable", "unreachable", "unknown"];
+    for model in ["index, SC", "index, TSO", "index, PSO"] {
+        met_more_than(100, model, &found);
+    }
+    for version in ["index, version 1", "index, version 2", "index, version 3"] {
+        met_more_than(100, version, &found);
+    }
+}
+
+#[test]
+fn every_search_with_an_index_is_held_to_the_others() {
+    let tally = many();
+    let all = tally.counted("calls", "search with an index");
+    let held = |class| tally.counted("index, held to", class);
+    assert_eq!(held("itself with another fill"), all);
+    assert_eq!(held("itself over what it left"), all);
+    // All but those in thousands of slots.
+    let large = tally.counted("index, rooms", "thousands of slots");
+    let plain = held("the plain search");
+    assert!(plain < all && plain + large >= all, "{plain} of {all}");
+}
+
 /// Jobs enough to meet two states that differ in any one piece alone.
 const FOR_PIECES: u64 = 8000;
 
@@ -2383,5 +2791,11 @@ fn no_class_of_a_version_is_met_by_chance_alone() {
 #[test]
 fn a_run_over_many_jobs_meets_every_class() {
     // Only the job that is left out here has so much room.
-    assert_eq!(many().empty_classes(), ["rooms: over 65,536 slots"]);
+    assert_eq!(
+        many().empty_classes(),
+        [
+            "rooms: over 65,536 slots",
+            "index, rooms: over 65,536 slots"
+        ]
+    );
 }

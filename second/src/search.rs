@@ -8,6 +8,8 @@ use std::rc::Rc;
 const MOST_SLOTS: usize = 65_536;
 const START_LINK: u32 = u32::MAX;
 const STEPS_PER_SLOT: usize = 64;
+/// Of the index.
+const NUMBERS_PER_SLOT: usize = 2;
 
 /// One step between a state of one level and a state of the next.
 #[derive(Clone, Copy, Debug, PartialEq, Eq, PartialOrd, Ord)]
@@ -31,11 +33,46 @@ enum Verdict {
 
 /// Answers 0,number,offset,0 | 1,d,states,0 | 2,states,0,0 | 3,N,0,0 and fills the lent buffers.
 pub fn search(job: &[u8], table: &mut [u8], links: &mut [u32], schedule: &mut [u8]) -> [u64; 4] {
+    let room = room(table.len(), links.len(), schedule.len());
+    search_in(room, job, table, links, schedule)
+}
+
+/// The same with an index, half of whose length N is then also at most; how states are looked up here needs none, so its contents stay.
+pub fn search_indexed(
+    job: &[u8],
+    table: &mut [u8],
+    links: &mut [u32],
+    schedule: &mut [u8],
+    index: &[u32],
+) -> [u64; 4] {
+    let room = room(table.len(), links.len(), schedule.len());
+    let room = room.min(room_of_index(index.len()));
+    search_in(room, job, table, links, schedule)
+}
+
+/// N of the paper without an index, by how long the others are.
+pub fn room(table: usize, links: usize, schedule: usize) -> usize {
+    let sizes = [table / SLOT_BYTES, links, schedule, MOST_SLOTS];
+    sizes.into_iter().min().unwrap_or(0)
+}
+
+/// What N is at most with an index of this length.
+pub fn room_of_index(index: usize) -> usize {
+    index / NUMBERS_PER_SLOT
+}
+
+/// The search at this N, which none of the buffers is too small for.
+fn search_in(
+    room: usize,
+    job: &[u8],
+    table: &mut [u8],
+    links: &mut [u32],
+    schedule: &mut [u8],
+) -> [u64; 4] {
     let job = match decode(job) {
         Ok(job) => job,
         Err(refusal) => return refusal.words(),
     };
-    let room = room(table, links, schedule);
     if room == 0 {
         return Refusal {
             number: 7,
@@ -55,17 +92,6 @@ pub fn search(job: &[u8], table: &mut [u8], links: &mut [u32], schedule: &mut [u
         Verdict::Unreachable => [2, states, 0, 0],
         Verdict::Unknown => [3, room as u64, 0, 0],
     }
-}
-
-/// N of the paper.
-fn room(table: &[u8], links: &[u32], schedule: &[u8]) -> usize {
-    let sizes = [
-        table.len() / SLOT_BYTES,
-        links.len(),
-        schedule.len(),
-        MOST_SLOTS,
-    ];
-    sizes.into_iter().min().unwrap_or(0)
 }
 
 /// The counted states in slot order, never more than `room`, and what they show.

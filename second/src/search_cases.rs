@@ -10,7 +10,7 @@ use crate::listed::{
 use crate::long_threads::{ends_high, of_job, HIGH_GOAL, MOST_BEFORE, OF_JOBS};
 use crate::machine::SLOT_BYTES;
 use crate::random::{buffer_sizes, sound_job_of, Random, Sizes};
-use crate::search::search;
+use crate::search::{search, search_indexed};
 use crate::version_three_jobs::{
     self, add, at_the_limit_of_three, classics_of_three, file_of_three, in_three, is_at, jump,
     load, message_passing, put, raised, refused_of_three, set, store, wide_groups,
@@ -21,37 +21,94 @@ use crate::version_two_jobs::{
     refused_in_both, WFENCE,
 };
 use crate::version_two_replays::grouped_job;
-use crate::{version_three, version_two};
+use crate::{index_cases, version_three, version_two};
 
 /// A job, and how much of each memory is lent for it.
 #[derive(Clone)]
 pub struct Case {
     pub sizes: Sizes,
+    /// None for the plain search.
+    pub index: Option<Index>,
     pub job: Vec<u8>,
 }
 
+impl Case {
+    pub fn plain(sizes: Sizes, job: Vec<u8>) -> Case {
+        Case {
+            sizes,
+            index: None,
+            job,
+        }
+    }
+}
+
+/// How much of an index is lent, and what stands in all the room for one before: number i is the first plus i, modulo 2^32.
+#[derive(Clone, Copy, Debug, PartialEq, Eq)]
+pub struct Index {
+    pub count: usize,
+    pub first: u32,
+}
+
 /// All that there is to lend.
-const ROOM: Sizes = Sizes {
+pub(crate) const ROOM: Sizes = Sizes {
     table: 65_536,
     links: 1024,
     schedule: 1024,
 };
 
-/// What the program under test prints for a case: the answer, and a sum over each whole memory.
+pub(crate) const NOTHING: Sizes = Sizes {
+    table: 0,
+    links: 0,
+    schedule: 0,
+};
+
+/// All that there is to lend as an index.
+pub const ROOM_FOR_INDEX: usize = 1024;
+
+/// What stands in all that there is to lend.
+#[derive(Clone)]
+pub struct Contents {
+    pub table: Vec<u8>,
+    pub links: Vec<u32>,
+    pub schedule: Vec<u8>,
+    /// Nothing for the plain search.
+    pub index: Vec<u32>,
+}
+
+impl Contents {
+    fn before(case: &Case) -> Contents {
+        let index = case.index.map_or(Vec::new(), |Index { first, .. }| {
+            let numbers = (0..).take(ROOM_FOR_INDEX);
+            numbers.map(|i| first.wrapping_add(i)).collect()
+        });
+        Contents {
+            table: pattern(ROOM.table, 3),
+            links: (1_000_003..).take(ROOM.links).collect(),
+            schedule: pattern(ROOM.schedule, 5),
+            index,
+        }
+    }
+}
+
+/// What the program under test prints for a case: the answer, and a sum over each whole memory; with an index a line more.
 pub fn lines(case: &Case) -> String {
-    let Searched {
-        answer,
-        table,
-        links,
-        schedule,
-    } = searched(case);
+    lines_by(case, answer)
+}
+
+/// The same by another search, which gets all that there is to lend and may use what the case says.
+pub fn lines_by(case: &Case, search: impl Fn(&Case, &mut Contents) -> [u64; 4]) -> String {
+    let mut contents = Contents::before(case);
+    let answer = search(case, &mut contents);
+    let index = case.index.map_or(String::new(), |Index { count, .. }| {
+        index_line(answer, count, &contents.index)
+    });
     let sums = [
-        sum(table.into_iter().map(u64::from)),
-        sum(links.into_iter().map(u64::from)),
-        sum(schedule.into_iter().map(u64::from)),
+        sum(contents.table.into_iter().map(u64::from)),
+        sum(contents.links.into_iter().map(u64::from)),
+        sum(contents.schedule.into_iter().map(u64::from)),
     ];
     format!(
-        "{}\nSUMS {} {} {}\n",
+        "{}\nSUMS {} {} {}\n{index}",
         answer_line(answer),
         sums[0],
         sums[1],
@@ -59,29 +116,38 @@ pub fn lines(case: &Case) -> String {
     )
 }
 
-/// The answer to a case, and all the memory that there was to lend as the search leaves it.
-struct Searched {
-    answer: [u64; 4],
-    table: Vec<u8>,
-    links: Vec<u32>,
-    schedule: Vec<u8>,
+/// A refusal leaves the whole index as it was; an answer leaves open what stands in so much of it as was lent.
+fn index_line(answer: [u64; 4], count: usize, index: &[u32]) -> String {
+    let kept = match answer {
+        [0, ..] => index,
+        _ => &index[count..],
+    };
+    let numbers = kept.iter().copied();
+    format!("INDEX {}\n", sum(numbers.map(u64::from)))
 }
 
-fn searched(case: &Case) -> Searched {
-    let mut table = pattern(ROOM.table, 3);
-    let mut links: Vec<u32> = (1_000_003..).take(ROOM.links).collect();
-    let mut schedule = pattern(ROOM.schedule, 5);
-    let answer = search(
-        &case.job,
-        &mut table[..case.sizes.table],
-        &mut links[..case.sizes.links],
-        &mut schedule[..case.sizes.schedule],
-    );
-    Searched {
-        answer,
-        table,
-        links,
-        schedule,
+/// The answer to a case, and all the memory that there was to lend as the search leaves it.
+pub(crate) struct Searched {
+    pub(crate) answer: [u64; 4],
+    pub(crate) left: Contents,
+}
+
+pub(crate) fn searched(case: &Case) -> Searched {
+    let mut left = Contents::before(case);
+    let answer = answer(case, &mut left);
+    Searched { answer, left }
+}
+
+/// This checker's answer in the memory that the case lends.
+pub fn answer(case: &Case, contents: &mut Contents) -> [u64; 4] {
+    let table = &mut contents.table[..case.sizes.table];
+    let links = &mut contents.links[..case.sizes.links];
+    let schedule = &mut contents.schedule[..case.sizes.schedule];
+    match case.index {
+        None => search(&case.job, table, links, schedule),
+        Some(Index { count, .. }) => {
+            search_indexed(&case.job, table, links, schedule, &contents.index[..count])
+        }
     }
 }
 
@@ -124,6 +190,7 @@ pub fn all() -> Vec<Case> {
         beside_a_long_thread(),
         of_version_two(),
         of_version_three(),
+        index_cases::all(),
     ];
     groups.concat()
 }
@@ -161,11 +228,9 @@ fn of_version_three() -> Vec<Case> {
 pub fn counts_of_long_threads() -> Counts {
     let classes = [&OF_JOBS[..], &[HIGH_GOAL]].concat();
     let met = |case: &Case| {
-        let Searched {
-            answer, schedule, ..
-        } = searched(case);
+        let Searched { answer, left } = searched(case);
         let to_high_goal = match answer {
-            [1, distance, ..] => ends_high(&case.job, &schedule[..distance as usize]),
+            [1, distance, ..] => ends_high(&case.job, &left.schedule[..distance as usize]),
             _ => false,
         };
         [
@@ -196,16 +261,11 @@ fn counts(
     of_search: fn(&[u8], version_two::Searched) -> Vec<&'static str>,
 ) -> Counts {
     let met = |case: &Case| {
-        let Searched {
-            answer,
-            table,
-            schedule,
-            ..
-        } = searched(case);
+        let Searched { answer, left } = searched(case);
         let left = version_two::Searched {
             answer,
-            table: &table,
-            schedule: &schedule,
+            table: &left.table,
+            schedule: &left.schedule,
         };
         [of_job(&case.job), of_search(&case.job, left)].concat()
     };
@@ -217,18 +277,16 @@ fn counts(
 fn lent(job: &[u8], slots: usize, turn: usize) -> Case {
     let roomy = slots + 2;
     let pick = |which: usize| if turn % 3 == which { slots } else { roomy };
-    Case {
-        sizes: Sizes {
-            table: pick(0) * SLOT_BYTES + turn % SLOT_BYTES,
-            links: pick(1),
-            schedule: pick(2),
-        },
-        job: job.to_vec(),
-    }
+    let sizes = Sizes {
+        table: pick(0) * SLOT_BYTES + turn % SLOT_BYTES,
+        links: pick(1),
+        schedule: pick(2),
+    };
+    Case::plain(sizes, job.to_vec())
 }
 
 /// How many states the search counts with all the room, and so from how many slots on the answer stays.
-fn count(job: &[u8]) -> usize {
+pub(crate) fn count(job: &[u8]) -> usize {
     let mut table = vec![0; ROOM.table];
     let mut links = vec![0; ROOM.links];
     let mut schedule = vec![0; ROOM.schedule];
@@ -308,10 +366,7 @@ fn narrow_buffers() -> Vec<Case> {
                     links,
                     schedule,
                 };
-                cases.push(Case {
-                    sizes,
-                    job: P1.to_vec(),
-                });
+                cases.push(Case::plain(sizes, P1.to_vec()));
             }
         }
     }
@@ -320,17 +375,9 @@ fn narrow_buffers() -> Vec<Case> {
 
 /// Jobs that are refused themselves, with all the room and with none at all.
 fn with_and_without_room(jobs: Vec<Refused>) -> Vec<Case> {
-    let none = Sizes {
-        table: 0,
-        links: 0,
-        schedule: 0,
-    };
-    let cases = jobs.into_iter().flat_map(|(job, _)| {
-        [ROOM, none].map(|sizes| Case {
-            sizes,
-            job: job.clone(),
-        })
-    });
+    let cases = jobs
+        .into_iter()
+        .flat_map(|(job, _)| [ROOM, NOTHING].map(|sizes| Case::plain(sizes, job.clone())));
     cases.collect()
 }
 
@@ -353,13 +400,17 @@ fn about_the_range_of_k() -> Vec<Case> {
     cases
 }
 
-fn with_all_the_room() -> Vec<Case> {
+/// More states than there is room for, and no goal among them.
+pub(crate) fn counts_without_end() -> Vec<u8> {
     let counter = vec![[2, 0, 0, 1], [9, 0, 0, 0]];
     let never = [[3, 0, 0, 9]];
-    let two_counters = file([TSO, 1], &[0], &[counter.clone(), counter], 0, &never);
+    file([TSO, 1], &[0], &[counter.clone(), counter], 0, &never)
+}
+
+fn with_all_the_room() -> Vec<Case> {
     let mut jobs = bench_list();
-    jobs.extend([two_counters, at_the_limit()]);
-    let cases = jobs.into_iter().map(|job| Case { sizes: ROOM, job });
+    jobs.extend([counts_without_end(), at_the_limit()]);
+    let cases = jobs.into_iter().map(|job| Case::plain(ROOM, job));
     cases.collect()
 }
 
@@ -430,7 +481,7 @@ fn beside_a_long_thread() -> Vec<Case> {
         // As many threads as there are, which no room here holds.
         let ends = [0, 1, 2, 3].map(|thread| [1, thread, 0, FURTHEST_PLACE]);
         let job = file(memory, &[0], &vec![ending(&[]); 4], 1, &ends);
-        cases.push(Case { sizes: ROOM, job });
+        cases.push(Case::plain(ROOM, job));
     }
     cases
 }
@@ -440,7 +491,7 @@ fn as_in_version_one() -> Vec<Case> {
     let mut jobs = bench_list();
     jobs.extend(MEMORIES.into_iter().flat_map(classics));
     let in_version_two = jobs.iter().map(|job| in_version(job, 2));
-    let cases = in_version_two.map(|job| Case { sizes: ROOM, job });
+    let cases = in_version_two.map(|job| Case::plain(ROOM, job));
     cases.collect()
 }
 
@@ -500,7 +551,7 @@ fn random_jobs_of_two() -> Vec<Case> {
             grouped_job(&mut random, 2, 6, NEVER)
         };
         let sizes = within_the_room(buffer_sizes(&mut random, &job));
-        cases.push(Case { sizes, job });
+        cases.push(Case::plain(sizes, job));
     }
     cases
 }
@@ -511,7 +562,7 @@ fn as_in_the_others() -> Vec<Case> {
     jobs.extend(MEMORIES.into_iter().flat_map(classics));
     jobs.extend(MEMORIES.into_iter().flat_map(classics_of_two));
     let of_three = jobs.iter().flat_map(|job| [in_three(job), raised(job)]);
-    let cases = of_three.map(|job| Case { sizes: ROOM, job });
+    let cases = of_three.map(|job| Case::plain(ROOM, job));
     cases.collect()
 }
 
@@ -564,10 +615,10 @@ fn counters_of_three() -> Vec<Case> {
             cases.extend(about_what_is_needed(&job));
         }
         let job = under(&at_the_limit_of_three(), memory);
-        cases.push(Case { sizes: ROOM, job });
+        cases.push(Case::plain(ROOM, job));
         let two = vec![vec![add(0, 0x0100), jump(0)]; 2];
         let job = file_of_three(memory, &[0], &two, 0, &[NEVER.into()]);
-        cases.push(Case { sizes: ROOM, job });
+        cases.push(Case::plain(ROOM, job));
         cases.extend(about_what_is_needed(&raised(&long_way(
             memory,
             MOST_INSTRUCTIONS,
@@ -614,7 +665,7 @@ fn random_jobs_of_three() -> Vec<Case> {
             raised(&grouped_job(&mut random, 2, 6, NEVER))
         };
         let sizes = within_the_room(buffer_sizes(&mut random, &job));
-        cases.push(Case { sizes, job });
+        cases.push(Case::plain(sizes, job));
     }
     cases
 }
@@ -627,15 +678,12 @@ fn random_jobs() -> Vec<Case> {
     let cases = (0..RANDOM_JOBS).map(|_| {
         let job = sound_job_of(&mut random, 1);
         let sizes = buffer_sizes(&mut random, &job);
-        Case {
-            sizes: within_the_room(sizes),
-            job,
-        }
+        Case::plain(within_the_room(sizes), job)
     });
     cases.collect()
 }
 
-fn within_the_room(sizes: Sizes) -> Sizes {
+pub(crate) fn within_the_room(sizes: Sizes) -> Sizes {
     Sizes {
         table: sizes.table.min(ROOM.table),
         links: sizes.links.min(ROOM.links),

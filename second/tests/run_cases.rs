@@ -8,7 +8,7 @@ use second::dead_code::{
 use second::fences::{open_pairs, OpenPair};
 use second::job::{Instruction, Job, Model};
 use second::listed::{
-    blank_goals, refused_jobs, too_long_threads, Refused, MEMORIES, ROOM_FOR_JOB,
+    blank_goals, refused_jobs, too_long_threads, Refused, MEMORIES, P1, ROOM_FOR_JOB,
 };
 use second::long_threads::{
     FULL_SIZE, HELD_HIGH, HIGH_CLAUSE, HIGH_END, HIGH_EXCHANGE, HIGH_FENCE, HIGH_GOAL, HIGH_LOAD,
@@ -21,9 +21,10 @@ use second::reasons::{
     ENDED_AT_FULL, FLUSH_BESIDE, FLUSH_OF_ENDED, FLUSH_OF_WAITING, NEVER, OTHER_STATE_BEFORE,
     STUCK,
 };
+use second::search_cases::{Case, Index};
 use second::version_three_jobs::{raised, refused_of_three};
 use second::version_two_jobs::{refused_about_versions, refused_in_both};
-use second::{decode, fence_cases, job_cases, replay_cases, search_cases};
+use second::{decode, fence_cases, index_cases, job_cases, replay_cases, search_cases};
 use std::collections::{BTreeMap, BTreeSet};
 
 #[test]
@@ -55,9 +56,25 @@ fn refused_jobs_are_decoded_and_searched_as_a_person_says() {
         assert!(rooms.iter().any(|case| case.sizes.table > 0), "{job:?}");
         for case in rooms {
             let lines = search_cases::lines(case);
-            assert_eq!(lines, format!("{line}{UNTOUCHED}"), "{job:?}");
+            let index = case.index.map_or(String::new(), untouched_index);
+            assert_eq!(lines, format!("{line}{UNTOUCHED}{index}"), "{job:?}");
         }
     }
+}
+
+/// The line for an index that nothing was written to: its room has 1,024 numbers.
+fn untouched_index(index: Index) -> String {
+    untouched_behind(index, 0)
+}
+
+/// The line for an index of which so many numbers may be others than before.
+fn untouched_behind(index: Index, count: u64) -> String {
+    let first = u64::from(index.first);
+    let sum = (count..1024).fold(0, |sum, i| {
+        let number = (first + i) % 4_294_967_296;
+        (31 * sum + number) % 4_294_967_291
+    });
+    format!("INDEX {sum}\n")
 }
 
 /// What is refused in any version.
@@ -281,25 +298,111 @@ fn version_3_is_often_enough_among_the_cases_of_all_four() {
 /// With each value times 256 a search has the answer, the links and the schedule that it had.
 #[test]
 fn searches_of_versions_1_and_2_have_the_same_answers_with_values_times_256() {
-    let lines = |case: &search_cases::Case| {
+    let lines = |case: &Case| {
         let lines = search_cases::lines(case);
-        let words: Vec<String> = lines.split_whitespace().map(str::to_string).collect();
-        // The third word from the end is the sum of the table.
-        [&words[..words.len() - 3], &words[words.len() - 2..]].concat()
+        let mut words: Vec<String> = lines.split_whitespace().map(str::to_string).collect();
+        let sums = words.iter().position(|word| word == "SUMS");
+        // The table's comes first.
+        words.remove(sums.expect("each case has a line of sums") + 1);
+        words
     };
     let mut compared = 0;
     for case in search_cases::all().iter().step_by(3) {
         let is_narrow = decode(&case.job).map_or(false, |job| job.version < 3);
         if is_narrow {
-            let wide = search_cases::Case {
+            let wide = Case {
                 job: raised(&case.job),
-                sizes: case.sizes,
+                ..case.clone()
             };
             assert_eq!(lines(&wide), lines(case), "{:?}", case.job);
             compared += 1;
         }
     }
     assert!(compared > 500, "{compared}");
+}
+
+/// As for long threads.
+#[test]
+fn every_class_of_an_index_is_often_enough_among_the_search_cases() {
+    assert_each_class(index_cases::counts(), 2_200, 20);
+}
+
+/// How many cases there were before some had an index.
+const PLAIN_SEARCHES: usize = 4_120;
+
+#[test]
+fn searches_with_an_index_come_behind_the_plain_ones_which_stay_where_they_were() {
+    let cases = search_cases::all();
+    let (plain, indexed) = cases.split_at(PLAIN_SEARCHES);
+    assert!(plain.iter().all(|case| case.index.is_none()));
+    let lengths: BTreeSet<usize> = indexed
+        .iter()
+        .map(|case| case.index.expect("plain ones come first").count)
+        .collect();
+    assert!((0..=71).all(|length| lengths.contains(&length)));
+    assert_eq!(lengths.iter().next_back(), Some(&1024));
+}
+
+/// With all the rest of the room.
+fn with_index(job: &[u8], count: usize, first: u32) -> Case {
+    Case {
+        sizes: Sizes {
+            table: 65_536,
+            links: 1024,
+            schedule: 1024,
+        },
+        index: Some(Index { count, first }),
+        job: job.to_vec(),
+    }
+}
+
+#[test]
+fn p1_with_an_index_is_searched_as_a_person_says() {
+    for first in [0, 1, 4_294_967_000, u32::MAX] {
+        for (count, line) in [
+            (0, "REFUSED 7 0"),
+            (1, "REFUSED 7 0"),
+            (2, "UNKNOWN 1"),
+            (3, "UNKNOWN 1"),
+            (4, "UNKNOWN 2"),
+            (42, "UNKNOWN 21"),
+            (43, "UNKNOWN 21"),
+            (44, "REACHABLE 4 22"),
+            (45, "REACHABLE 4 22"),
+            (1024, "REACHABLE 4 22"),
+        ] {
+            let case = with_index(&P1, count, first);
+            let lines = search_cases::lines(&case);
+            let lines: Vec<String> = lines.lines().map(|line| format!("{line}\n")).collect();
+            assert_eq!(lines[0], format!("{line}\n"), "{count}");
+            let index = Index { count, first };
+            let refused = lines[0].starts_with("REFUSED");
+            assert_eq!(refused, lines[1] == UNTOUCHED);
+            let open = if refused { 0 } else { count as u64 };
+            assert_eq!(lines[2], untouched_behind(index, open));
+            assert_eq!(lines.len(), 3);
+        }
+    }
+}
+
+const SUM_FROM_0: u64 = 1_366_231_906;
+const SUM_THAT_WRAPS: u64 = 3_209_661_404;
+
+/// Worked out apart from the checker, from what the room holds before: 0 to 1,023, and the same from 2^32 - 296 on.
+#[test]
+fn sums_of_an_index_that_nothing_was_written_to() {
+    let bad: Vec<u8> = vec![0, 1, 0];
+    for (first, sum) in [(0, SUM_FROM_0), (4_294_967_000, SUM_THAT_WRAPS)] {
+        for count in [0, 1, 2, 1024] {
+            let lines = search_cases::lines(&with_index(&bad, count, first));
+            assert_eq!(lines, format!("REFUSED 2 2\n{UNTOUCHED}INDEX {sum}\n"));
+        }
+    }
+    // All is lent and answered, so nothing is left to sum up.
+    let whole = search_cases::lines(&with_index(&P1, 1024, 7));
+    assert!(whole.ends_with("\nINDEX 0\n"), "{whole}");
+    let but_one = search_cases::lines(&with_index(&P1, 1023, 7));
+    assert!(but_one.ends_with("\nINDEX 1030\n"), "{but_one}");
 }
 
 fn assert_each_class(counts: Counts, cases: usize, least: usize) {
@@ -398,10 +501,7 @@ fn the_longest_ways_are_searched_as_a_person_says() {
                     links: slots,
                     schedule: slots,
                 };
-                let case = search_cases::Case {
-                    sizes,
-                    job: job.clone(),
-                };
+                let case = Case::plain(sizes, job.clone());
                 let lines = search_cases::lines(&case);
                 lines.lines().next().unwrap().to_string()
             };

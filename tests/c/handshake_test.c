@@ -1,4 +1,4 @@
-/* Calls the library through its C header on the bench list of 01, and on jobs of versions 2 and 3. */
+/* Calls the library through its C header on the bench list of 01, on jobs of versions 2 and 3, and with an index. */
 #include "handshake.h"
 
 #include <stdio.h>
@@ -212,6 +212,34 @@ static void search(const uint8_t *job, size_t size, const Lent *m, uint64_t answ
     CHECK(size == 0 || memcmp(copy, job, size) == 0);
     memcpy(answer, words + 1, 4 * sizeof(uint64_t));
     free(copy);
+}
+
+/* How an index is filled before a search: numbers that could be slots, from 0 on; 0 alone; all ones; any. */
+enum { FROM_0, ZEROS, ONES, ANY, FILLS };
+static uint32_t index_number(int fill, size_t i) {
+    return fill == FROM_0 ? (uint32_t)i : fill == ZEROS ? 0 : fill == ONES ? 4294967295u : (uint32_t)(2654435769u * i);
+}
+
+/* The same with an index of so many numbers between guards, which no call may touch; after a refusal the index itself is as it was. */
+static void search_indexed(const uint8_t *job, size_t size, const Lent *m, size_t numbers, int fill, uint64_t answer[4]) {
+    uint8_t *copy = room(size);
+    uint32_t *index = room((numbers + 2 * guard) * sizeof(uint32_t));
+    if (size > 0) memcpy(copy, job, size);
+    for (size_t i = 0; i < numbers + 2 * guard; i++) index[i] = index_number(fill, i);
+    uint64_t words[6] = {11, 12, 13, 14, 15, 16};
+    handshake_search_indexed(copy, size, m->table + guard, m->table_size, m->links + guard, m->links_size, m->schedule + guard,
+                             m->schedule_size, index + guard, numbers, words + 1);
+    CHECK(words[0] == 11 && words[5] == 16);
+    CHECK(size == 0 || memcmp(copy, job, size) == 0);
+    memcpy(answer, words + 1, 4 * sizeof(uint64_t));
+    int kept = 1;
+    for (size_t i = 0; i < numbers + 2 * guard; i++) {
+        int is_open = answer[0] != 0 && i >= guard && i < guard + numbers;
+        if (!is_open && index[i] != index_number(fill, i)) kept = 0;
+    }
+    CHECK(kept);
+    free(copy);
+    free(index);
 }
 
 static void replay(const uint8_t *job, size_t size, const uint8_t *schedule, size_t steps, uint64_t answer[4]) {
@@ -497,6 +525,8 @@ static void refused(const uint8_t *job, size_t size, uint64_t number, uint64_t o
     uint64_t answer[4];
     Lent m = lend(ROOM * SLOT, ROOM, ROOM);
     search(job, size, &m, answer);
+    CHECK(answer_is(answer, 0, number, offset, 0));
+    search_indexed(job, size, &m, 2 * ROOM, FROM_0, answer);
     CHECK(answer_is(answer, 0, number, offset, 0));
     CHECK(rest_kept(&m, 0, 0, 0));
     give_back(m);
@@ -1285,6 +1315,102 @@ static void all_registers(void) {
     give_back(m);
 }
 
+/* Whether both have the same in the table, in the schedule and in so many first links. */
+static int same_memory(const Lent *m, const Lent *other, size_t slots) {
+    return memcmp(m->table, other->table, m->table_size + 2 * guard) == 0 &&
+           memcmp(m->schedule, other->schedule, m->schedule_size + 2 * guard) == 0 &&
+           memcmp(m->links + guard, other->links + guard, slots * sizeof(uint32_t)) == 0;
+}
+
+/* P1 with an index: 44 numbers are enough for its 22 states, and at each length all is as without an index in half as many links. */
+static void indexed_p1(void) {
+    enum { ALL = 24 };
+    const Job p1 = formed(P1, sizeof P1);
+    uint64_t answer[4], plain[4];
+    for (int fill = 0; fill < FILLS; fill++) {
+        for (size_t numbers = 0; numbers <= 2 * ALL + 1; numbers++) {
+            const size_t slots = numbers / 2;
+            Lent m = lend(ALL * SLOT, ALL, ALL), without = lend(ALL * SLOT, slots, ALL);
+            search_indexed(p1.bytes, p1.size, &m, numbers, fill, answer);
+            if (slots == 0)
+                CHECK(answer_is(answer, 0, 7, 0, 0) && rest_kept(&m, 0, 0, 0));
+            else if (slots < 22)
+                CHECK(answer_is(answer, 3, slots, 0, 0) && rest_kept(&m, slots * SLOT, slots, 0));
+            else
+                CHECK(answer_is(answer, 1, 4, 22, 0) && rest_kept(&m, 22 * SLOT, 22, 4));
+            search(p1.bytes, p1.size, &without, plain);
+            CHECK(memcmp(answer, plain, sizeof answer) == 0);
+            CHECK(same_memory(&m, &without, slots));
+            give_back(m);
+            give_back(without);
+        }
+    }
+}
+
+/* The smallest of the four decides, and an index that is longer makes no difference. */
+static void indexed_by_slots(void) {
+    const Job p1 = formed(P1, sizeof P1);
+    static const size_t sizes[][5] = {{8 * SLOT, 8, 8, 14, 7}, {8 * SLOT, 8, 8, 15, 7},   {8 * SLOT - 1, 8, 8, 16, 7}, {8 * SLOT, 7, 8, 17, 7},
+                                      {8 * SLOT, 8, 7, 16, 7}, {8 * SLOT, 8, 8, 1000, 8}, {8 * SLOT, 9, 9, 16, 8},     {SLOT, 1, 1, 2, 1}};
+    uint64_t answer[4];
+    for (size_t k = 0; k < sizeof sizes / sizeof sizes[0]; k++) {
+        for (int fill = 0; fill < FILLS; fill++) {
+            const size_t slots = sizes[k][4];
+            Lent m = lend(sizes[k][0], sizes[k][1], sizes[k][2]);
+            search_indexed(p1.bytes, p1.size, &m, sizes[k][3], fill, answer);
+            CHECK(answer_is(answer, 3, slots, 0, 0));
+            CHECK(rest_kept(&m, slots * SLOT, slots, 0));
+            give_back(m);
+        }
+    }
+}
+
+/* Refused by the job or for want of a slot, which comes last: nothing is written, in the index either. */
+static void indexed_refusals(void) {
+    static const struct {
+        size_t at, size;
+        uint8_t value;
+        uint64_t number, offset;
+    } faults[] = {{1, sizeof P1, 0x2A, 1, 0}, {VERSION, sizeof P1, 0, 2, 2},  {MODEL, sizeof P1, 3, 3, 3},     {10, sizeof P1, 0x0C, 4, 10},
+                  {FLAG, sizeof P1, 2, 5, 27}, {K, sizeof P1, 5, 6, 45},       {K, sizeof P1, 0, 5, 28},         {0, 0, 0, 1, 0}};
+    static const size_t numbers[] = {0, 1, 2, 3, 44, 1000};
+    uint8_t job[sizeof P1];
+    uint64_t answer[4];
+    for (size_t k = 0; k < sizeof faults / sizeof faults[0]; k++) {
+        memcpy(job, P1, sizeof P1);
+        job[faults[k].at] = faults[k].value;
+        for (size_t n = 0; n < sizeof numbers / sizeof numbers[0]; n++) {
+            for (int fill = 0; fill < FILLS; fill++) {
+                Lent m = lend(30 * SLOT, 30, 30), none = lend(0, 0, 0);
+                search_indexed(job, faults[k].size, &m, numbers[n], fill, answer);
+                CHECK(answer_is(answer, 0, faults[k].number, faults[k].offset, 0));
+                CHECK(rest_kept(&m, 0, 0, 0));
+                search_indexed(job, faults[k].size, &none, numbers[n], fill, answer);
+                CHECK(answer_is(answer, 0, faults[k].number, faults[k].offset, 0));
+                search_indexed(P1, sizeof P1, &none, numbers[n], fill, answer);
+                CHECK(answer_is(answer, 0, 7, 0, 0));
+                CHECK(rest_kept(&none, 0, 0, 0));
+                give_back(m);
+                give_back(none);
+            }
+        }
+    }
+}
+
+/* No index at all, and no memory at all. */
+static void indexed_nothing(void) {
+    uint64_t answer[4] = {1, 2, 3, 4};
+    handshake_search_indexed(P1, sizeof P1, NULL, 0, NULL, 0, NULL, 0, NULL, 0, answer);
+    CHECK(answer_is(answer, 0, 7, 0, 0));
+    handshake_search_indexed(NULL, 0, NULL, 0, NULL, 0, NULL, 0, NULL, 0, answer);
+    CHECK(answer_is(answer, 0, 1, 0, 0));
+    Lent m = lend(SLOT, 1, 1);
+    handshake_search_indexed(P1, sizeof P1, m.table + guard, SLOT, m.links + guard, 1, m.schedule + guard, 1, NULL, 0, answer);
+    CHECK(answer_is(answer, 0, 7, 0, 0));
+    CHECK(rest_kept(&m, 0, 0, 0));
+    give_back(m);
+}
+
 int main(void) {
     const size_t guards[] = {64, 0};
     for (size_t k = 0; k < 2; k++) {
@@ -1303,6 +1429,8 @@ int main(void) {
             dead_code();
             blank_goals();
             empty_buffers();
+            indexed_p1();
+            indexed_by_slots();
             if (form.version == 1) continue;
             store_store_fence();
             group_reasons();
@@ -1326,6 +1454,8 @@ int main(void) {
         wide_stores();
         full_buffers();
         all_registers();
+        indexed_refusals();
+        indexed_nothing();
     }
     printf("%d checks hold\n", checks);
     return 0;

@@ -57,6 +57,26 @@ pub extern "C" fn handshake_search(
     *answer = found;
 }
 
+// The same search with an index in one more slice, which is for speed alone: N is then also at most half its length.
+#[no_mangle]
+pub extern "C" fn handshake_search_indexed(
+    job: &[u8],
+    table: &mut [u8],
+    links: &mut [u32],
+    schedule: &mut [u8],
+    index: &mut [u32],
+    answer: &mut [u64; 4],
+)
+    ensures { λ _. ⌜
+        search-meaning.IndexedPromise (now (job .entry))
+        (record { table = now (table .entry); links = now (links .entry); schedule = now (schedule .entry) }) (now (index .entry)) (now (answer .exit))
+        (record { table = now (table .exit); links = now (links .exit); schedule = now (schedule .exit) }) (now (index .exit))
+        ⌝ }
+{
+    let found = search_words(search::indexed::search_indexed(table, links, schedule, index, job));
+    *answer = found;
+}
+
 #[no_mangle]
 pub extern "C" fn handshake_replay(job: &[u8], schedule: &[u8], answer: &mut [u64; 4])
     ensures { λ _. ⌜ replay-meaning.ReplayPromise (now (job .entry)) (now (schedule .entry)) (now (answer .exit)) ⌝ }

@@ -5,4 +5,5 @@ pub mod Read
 pub mod Walking
 pub mod Whole
 pub mod Unique
+pub mod Equal
 pub mod Pins

@@ -1,8 +1,8 @@
 -- What a search answers, and what the three lent buffers then hold, for every input: 01, "Search" and "Refusal numbers and their order".
 use mathlib.Core.Path.{_≡_, refl, sym, _∙_, ap}
 use mathlib.Core.List.{List, [], _∷_}
-use Prim.Native.Nat.{ℕ}
-use lib.ListN.{getD}
+use Prim.Native.Nat.{ℕ, _/_, min}
+use lib.ListN.{length, getD}
 use Rattle.reach.specs.Meaning.{reachable, unreachable, unknown}
 use Rattle.reach.specs.Words.{refusal-words, answer-words}
 use Rattle.lent.specs.Meaning.{Lent, slots-lent, IsRefused, AnsweredWith}
@@ -24,14 +24,30 @@ words (Unknown slots) = answer-words (unknown slots)
 abbrev pub slots-of : Lent → ℕ
 slots-of m = slots-lent slot-size most-slots m
 
--- an accepted job is searched, a refused one gives its refusal
+-- an accepted job is searched in N slots, a refused one gives its refusal; both searches promise this, each with its own N
+abbrev pub SearchIn : (N : ℕ) → Decoded → Lent → List ℕ → Lent → Type 0
+SearchIn N (accepted j) m ws m′ = AnsweredWith (machine j) slot-size slot-bytes N m ws m′
+SearchIn N (refused number offset) m ws m′ = IsRefused number offset m ws m′
+
+abbrev pub SearchedIn : (N : ℕ) (bytes : List ℕ) → Lent → List ℕ → Lent → Type 0
+SearchedIn N bytes m ws m′ = SearchIn N (decode bytes) m ws m′
+
 abbrev pub SearchOf : Decoded → Lent → List ℕ → Lent → Type 0
-SearchOf (accepted j) m ws m′ = AnsweredWith (machine j) slot-size slot-bytes (slots-of m) m ws m′
-SearchOf (refused number offset) m ws m′ = IsRefused number offset m ws m′
+SearchOf d m ws m′ = SearchIn (slots-of m) d m ws m′
 
 -- the whole promise: job, buffers before, answer, buffers after
 abbrev pub SearchPromise : List ℕ → Lent → List ℕ → Lent → Type 0
-SearchPromise bytes m ws m′ = SearchOf (decode bytes) m ws m′
+SearchPromise bytes m ws m′ = SearchedIn (slots-of m) bytes m ws m′
+
+-- "N is then also at most half that slice's length, rounded down"
+abbrev pub slots-indexed : Lent → (index : List ℕ) → ℕ
+slots-indexed m index = min (slots-of m) (length index / 2)
+
+-- the whole promise of the search with an index: what the index holds afterwards is left open, "but a refusal leaves them unchanged"
+pub record IndexedPromise (bytes : List ℕ) (m : Lent) (index : List ℕ) (ws : List ℕ) (m′ : Lent) (index′ : List ℕ) : Type 0 where
+  pub searched : SearchedIn (slots-indexed m index) bytes m ws m′
+  pub as-long : length index′ ≡ length index
+  pub unchanged : (number offset : ℕ) → ws ≡ refusal-words number offset → index′ ≡ index
 
 -- The words tell the answers apart: from the words back to the case.
 case-of : List ℕ → Answer

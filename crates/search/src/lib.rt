@@ -1,4 +1,7 @@
-// Search: 01, "Search". Any bytes as a job, and three lent buffers of any lengths and contents.
+// Search: 01, "Search". Any bytes as a job, and three lent buffers of any lengths and contents. One search serves with an index and without: where
+// none is lent, its width is 0 (request 6; `indexed` has the search that is lent one).
+pub mod indexed;
+
 use job::Decoded;
 use job::Layout;
 use shelf::Front;
@@ -10,7 +13,7 @@ ghost use Rattle.reach.specs.Meaning.{link};
 ghost use Rattle.lent.specs.Meaning.{IsAnswered, AnsweredWith};
 ghost use Rattle.lent.specs.Parts.{Stands, FirstGoal};
 ghost use Rattle.lent.specs.Kept.{Lends};
-ghost use Rattle.shelf.specs.Front.{Fits, PutDone};
+ghost use Rattle.shelf.specs.Front.{Ready, Fits, PutDone};
 ghost use Rattle.rules.specs.Limits.{slot-size, most-slots};
 ghost use Rattle.rules.specs.File.{job-of};
 ghost use Rattle.rules.specs.Slot.{slot-bytes};
@@ -20,9 +23,9 @@ ghost use Rattle.rules.specs.Machine.{machine};
 ghost use Rattle.job.specs.Laid.{IsAccepted};
 ghost use Rattle.state.specs.Held.{held};
 ghost use Rattle.engine.specs.At.{At};
-ghost use Rattle.search.specs.Meaning.{words, slots-of, SearchPromise};
+ghost use Rattle.search.specs.Meaning.{words, SearchPromise};
 ghost use Rattle.search.specs.Coded.{coding};
-ghost use Rattle.search.specs.Whole.{ExpandDone};
+ghost use Rattle.search.specs.Whole.{ExpandDone, Counted, HasRoom};
 
 // What a search answers: the refusal's number and offset; d and R(d); the number of states; N.
 pub enum Answer {
@@ -36,6 +39,8 @@ pub enum Answer {
 fn put_next(
     table: &mut [u8],
     links: &mut [u32],
+    index: &mut [u32],
+    width: usize,
     front: Front,
     slots: usize,
     q: usize,
@@ -44,37 +49,45 @@ fn put_next(
     job: &[u8],
     l: Layout,
 ) -> Front
-    requires { ⌜ Fits slot-size slots (now table) (now links) front ⌝ }
+    requires { ⌜ Fits slot-size slots (now table) (now links) (now index) width front ⌝ }
     requires { ⌜ q < most-slots ⌝ }
     requires { ⌜ At (now job) l x ⌝ }
     requires { ⌜ may (job-of (now job)) s (held x) ≡ Yes ⌝ }
     ensures { λ r. ⌜
         PutDone slot-size slots (now (table .entry)) (now (links .entry)) front
-        (slot-bytes (after (job-of (now (job .entry))) s (held x))) (link q s) (now (table .exit)) (now (links .exit)) r
+        (slot-bytes (after (job-of (now (job .entry))) s (held x))) (link q s) (now (table .exit)) (now (links .exit)) (now (index .exit)) width r
         ⌝ }
 {
     let y = engine::take(job, l, x, s);
-    let bytes = slot::bytes_of(y);
     let link = 64 * (q as u32) + (s as u32);
-    shelf::put(table, links, front, slots, &bytes, link)
+    // Each way lays the state out for itself: without an index its pieces are then held in registers, which a look-up by chains does not allow.
+    if width == 0 {
+        let bytes = slot::bytes_of(y);
+        return shelf::put(table, links, index, 0, front, slots, &bytes, link);
+    }
+    let bytes = slot::bytes_of(y);
+    shelf::put(table, links, index, width, front, slots, &bytes, link)
 }
 
 // The state in slot q is expanded: its steps from the lowest upward, until no slot is left for what one leads to.
 fn expand(
     table: &mut [u8],
     links: &mut [u32],
+    index: &mut [u32],
+    width: usize,
     front: Front,
     slots: usize,
     q: usize,
     job: &[u8],
     l: Layout,
 ) -> Front
-    requires { ⌜ Fits slot-size slots (now table) (now links) front ⌝ }
+    requires { ⌜ Fits slot-size slots (now table) (now links) (now index) width front ⌝ }
     requires { ⌜ (q < front .count) × (slots ≤ most-slots) ⌝ }
     requires { ⌜ IsAccepted (now job) l ⌝ }
     requires { ⌜ Stands (coding (job-of (now job))) (now table) q ⌝ }
     ensures { λ r. ⌜
-        ExpandDone (job-of (now (job .entry))) slots q (now (table .entry)) (now (links .entry)) front (now (table .exit)) (now (links .exit)) r
+        ExpandDone (job-of (now (job .entry))) slots q (now (table .entry)) (now (links .entry)) front (now (table .exit)) (now (links .exit))
+        (now (index .exit)) width r
         ⌝ }
 {
     let x = slot::read_slot(table, q);
@@ -86,7 +99,7 @@ fn expand(
     while tried < tries {
         let s = bits::lowest(left);
         left = bits::without_lowest(left);
-        at = put_next(table, links, at, slots, q, s, x, job, l);
+        at = put_next(table, links, index, width, at, slots, q, s, x, job, l);
         if at.full {
             return at;
         }
@@ -119,6 +132,8 @@ fn turns(
     table: &mut [u8],
     links: &mut [u32],
     schedule: &mut [u8],
+    index: &mut [u32],
+    width: usize,
     slots: usize,
     job: &[u8],
     l: Layout,
@@ -126,6 +141,7 @@ fn turns(
     requires { ⌜ IsAccepted (now job) l ⌝ }
     requires { ⌜ (0 < slots) × (slots ≤ most-slots) × (slots ≤ length (now schedule)) ⌝ }
     requires { ⌜ Lends slot-size slots (now table) (now links) ⌝ }
+    requires { ⌜ Ready slot-size slots (now table) (now index) width 0 ⌝ }
     ensures { λ r. ⌜
         IsAnswered (machine (job-of (now (job .entry)))) slot-size slot-bytes slots
         (record { table = now (table .entry); links = now (links .entry); schedule = now (schedule .entry) }) (words r)
@@ -137,13 +153,22 @@ fn turns(
         full: false,
     };
     let start = slot::bytes_of(engine::start(job, l));
-    let mut front = shelf::put(table, links, nothing, slots, &start, shelf::NO_LINK);
+    let mut front = shelf::put_first(
+        table,
+        links,
+        index,
+        width,
+        nothing,
+        slots,
+        &start,
+        shelf::NO_LINK,
+    );
     let mut next: usize = 0;
     let mut mark: usize = 0;
     let mut d: usize = 0;
     loop {
         if next < mark {
-            front = expand(table, links, front, slots, next, job, l);
+            front = expand(table, links, index, width, front, slots, next, job, l);
             if front.full {
                 return Answer::Unknown(slots);
             }
@@ -164,33 +189,48 @@ fn turns(
     }
 }
 
-// The search of an accepted job: N is the smallest of what the three buffers hold and 65,536.
-fn search_accepted(
-    table: &mut [u8],
-    links: &mut [u32],
-    schedule: &mut [u8],
-    job: &[u8],
-    l: Layout,
-) -> Answer
-    requires { ⌜ IsAccepted (now job) l ⌝ }
+// N without an index: the smallest of what the three buffers hold and 65,536.
+fn slots_lent(table: &[u8], links: &[u32], schedule: &[u8]) -> usize
     ensures { λ r. ⌜
-        AnsweredWith (machine (job-of (now (job .entry)))) slot-size slot-bytes
-        (slots-of (record { table = now (table .entry); links = now (links .entry); schedule = now (schedule .entry) }))
-        (record { table = now (table .entry); links = now (links .entry); schedule = now (schedule .entry) }) (words r)
-        (record { table = now (table .exit); links = now (links .exit); schedule = now (schedule .exit) })
+        Counted r (record { table = now (table .entry); links = now (links .entry); schedule = now (schedule .entry) })
         ⌝ }
 {
-    let slots = shelf::smaller(
+    shelf::smaller(
         table.len() / rules::SLOT_SIZE,
         shelf::smaller(
             links.len(),
             shelf::smaller(schedule.len(), rules::MOST_SLOTS),
         ),
-    );
+    )
+}
+
+// The search of an accepted job with so many slots: the index, whatever it holds, is made empty first.
+fn search_accepted(
+    table: &mut [u8],
+    links: &mut [u32],
+    schedule: &mut [u8],
+    index: &mut [u32],
+    width: usize,
+    slots: usize,
+    job: &[u8],
+    l: Layout,
+) -> Answer
+    requires { ⌜ IsAccepted (now job) l ⌝ }
+    requires { ⌜
+        HasRoom slots (record { table = now table; links = now links; schedule = now schedule }) (now index) width
+        ⌝ }
+    ensures { λ r. ⌜
+        AnsweredWith (machine (job-of (now (job .entry)))) slot-size slot-bytes slots
+        (record { table = now (table .entry); links = now (links .entry); schedule = now (schedule .entry) }) (words r)
+        (record { table = now (table .exit); links = now (links .exit); schedule = now (schedule .exit) })
+        × (slots ≡ 0 → now (index .exit) ≡ now (index .entry))
+        ⌝ }
+{
     if slots == 0 {
         return Answer::Refused(7, 0);
     }
-    turns(table, links, schedule, slots, job, l)
+    chains::clear(index, width);
+    turns(table, links, schedule, index, width, slots, job, l)
 }
 
 // The search: any bytes as a job, any lent memory, always an answer.
@@ -201,13 +241,20 @@ pub fn search(table: &mut [u8], links: &mut [u32], schedule: &mut [u8], job: &[u
         ⌝ }
 {
     match job::decode(job) {
-        Decoded::Accepted(model) => search_accepted(
-            table,
-            links,
-            schedule,
-            job,
-            job::layout_of(job, model),
-        ),
+        Decoded::Accepted(model) => {
+            let slots = slots_lent(table, links, schedule);
+            let mut none: [u32; 1] = [0];
+            search_accepted(
+                table,
+                links,
+                schedule,
+                &mut none,
+                0,
+                slots,
+                job,
+                job::layout_of(job, model),
+            )
+        }
         Decoded::Refused(number, offset) => Answer::Refused(number, offset),
     }
 }

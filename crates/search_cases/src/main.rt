@@ -1,10 +1,11 @@
 // Searches each case on standard input in lent memory of its sizes, and prints the answer and a sum over each whole memory afterwards.
-// A case is the numbers of table bytes, links and schedule bytes to lend, four bytes each, the count of the job's bytes, two bytes,
-// and then the job.
+// A case is the numbers of table bytes, links, schedule bytes and index numbers to lend, and the number that the index is filled from,
+// four bytes each; the count of the job's bytes, two bytes; and then the job.
 use cases::Number;
 use libc::STDOUT_FILENO;
 use search::Answer;
-ghost use Prim.Native.Nat.{_<_};
+ghost use Prim.Native.Nat.{_<_, _≤_};
+ghost use lib.ListN.{length};
 ghost use Rattle.search_cases.specs.Room.{Within};
 
 // All that there is to lend; a case that asks for more ends the run.
@@ -14,6 +15,11 @@ const LINKS_ROOM: usize = 1024;
 
 const SCHEDULE_ROOM: usize = 1024;
 
+const INDEX_ROOM: usize = 1024;
+
+// As many index numbers say that there is none: the plain search.
+const NO_INDEX: usize = 4294967295;
+
 // The largest prime below 2^32.
 const SUM_MODULUS: u64 = 4294967291;
 
@@ -22,6 +28,8 @@ struct Sizes {
     table: usize,
     links: usize,
     schedule: usize,
+    index: usize,
+    first: usize,
 }
 
 enum Head {
@@ -39,10 +47,18 @@ fn read_head() -> Head {
     let Number::Is(schedule) = cases::read_long() else {
         return Head::End;
     };
+    let Number::Is(index) = cases::read_long() else {
+        return Head::End;
+    };
+    let Number::Is(first) = cases::read_long() else {
+        return Head::End;
+    };
     Head::Case(Sizes {
         table,
         links,
         schedule,
+        index,
+        first,
     })
 }
 
@@ -148,13 +164,18 @@ fn print_sums(table: &[u8], links: &[u32], schedule: &[u8]) {
     end_line();
 }
 
+// What each memory but the index holds before a case.
+fn fill_all(table: &mut [u8], links: &mut [u32], schedule: &mut [u8]) {
+    fill(table, 3);
+    fill_links(links, 1000003);
+    fill(schedule, 5);
+}
+
 // The search with the first so many of each memory lent; the sums are over all of it, lent or not.
 fn run_search(table: &mut [u8], links: &mut [u32], schedule: &mut [u8], sizes: Sizes, job: &[u8])
     requires { ⌜ Within sizes (now table) (now links) (now schedule) ⌝ }
 {
-    fill(table, 3);
-    fill_links(links, 1000003);
-    fill(schedule, 5);
+    fill_all(table, links, schedule);
     let table_size = sizes.table;
     let links_size = sizes.links;
     let schedule_size = sizes.schedule;
@@ -168,8 +189,79 @@ fn run_search(table: &mut [u8], links: &mut [u32], schedule: &mut [u8], sizes: S
     print_sums(table, links, schedule);
 }
 
+// The same with so much of the index lent.
+fn search_indexed(
+    table: &mut [u8],
+    links: &mut [u32],
+    schedule: &mut [u8],
+    index: &mut [u32],
+    sizes: Sizes,
+    job: &[u8],
+) -> Answer
+    requires { ⌜ Within sizes (now table) (now links) (now schedule) ⌝ }
+    requires { ⌜ sizes .index ≤ length (now index) ⌝ }
+{
+    let table_size = sizes.table;
+    let links_size = sizes.links;
+    let schedule_size = sizes.schedule;
+    let index_size = sizes.index;
+    search::indexed::search_indexed(
+        &mut table[0..table_size],
+        &mut links[0..links_size],
+        &mut schedule[0..schedule_size],
+        &mut index[0..index_size],
+        job,
+    )
+}
+
+// Of the index only what has to be unchanged is looked at: all of it after a refusal, else what was not lent.
+fn unchanged_from(answer: Answer, lent: usize) -> usize
+    ensures { λ r. ⌜ r ≤ lent ⌝ }
+{
+    match answer {
+        Answer::Refused(_, _) => 0,
+        Answer::Reachable(_, _) => lent,
+        Answer::Unreachable(_) => lent,
+        Answer::Unknown(_) => lent,
+    }
+}
+
+fn print_index(index: &[u32], from: usize)
+    requires { ⌜ from ≤ length (now index) ⌝ }
+{
+    io::write_all(STDOUT_FILENO, b"INDEX");
+    print_number(sum_of_links(&index[from..]));
+    end_line();
+}
+
+// The search with an index, which is filled with whatever the case says.
+fn run_indexed(
+    table: &mut [u8],
+    links: &mut [u32],
+    schedule: &mut [u8],
+    index: &mut [u32],
+    sizes: Sizes,
+    job: &[u8],
+)
+    requires { ⌜ Within sizes (now table) (now links) (now schedule) ⌝ }
+    requires { ⌜ sizes .index ≤ length (now index) ⌝ }
+{
+    fill_all(table, links, schedule);
+    fill_links(index, (sizes.first % 4294967296) as u32);
+    let answer = search_indexed(table, links, schedule, index, sizes, job);
+    print_answer(answer);
+    print_sums(table, links, schedule);
+    print_index(index, unchanged_from(answer, sizes.index));
+}
+
 // One case, whose job is read to the front of its room. Whether it was wholly there, and asked for no more than there is.
-fn run_case(table: &mut [u8], links: &mut [u32], schedule: &mut [u8], job: &mut [u8]) -> bool {
+fn run_case(
+    table: &mut [u8],
+    links: &mut [u32],
+    schedule: &mut [u8],
+    index: &mut [u32],
+    job: &mut [u8],
+) -> bool {
     let Head::Case(sizes) = read_head() else {
         return false;
     };
@@ -187,7 +279,14 @@ fn run_case(table: &mut [u8], links: &mut [u32], schedule: &mut [u8], job: &mut 
     if sizes.schedule > schedule.len() {
         return false;
     }
-    run_search(table, links, schedule, sizes, &job[0..end]);
+    if sizes.index == NO_INDEX {
+        run_search(table, links, schedule, sizes, &job[0..end]);
+        return true;
+    }
+    if sizes.index > index.len() {
+        return false;
+    }
+    run_indexed(table, links, schedule, index, sizes, &job[0..end]);
     true
 }
 
@@ -195,8 +294,9 @@ fn run_next() -> bool {
     let mut table = [0u8; TABLE_ROOM];
     let mut links = [0u32; LINKS_ROOM];
     let mut schedule = [0u8; SCHEDULE_ROOM];
+    let mut index = [0u32; INDEX_ROOM];
     let mut job = [0u8; cases::JOB_ROOM];
-    run_case(&mut table, &mut links, &mut schedule, &mut job)
+    run_case(&mut table, &mut links, &mut schedule, &mut index, &mut job)
 }
 
 // A proved loop has to end, so it counts its turns down, from a number that no run uses up.

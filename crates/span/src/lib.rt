@@ -1,5 +1,5 @@
 // A run of bytes at a place of a table: laid over it, read from it, compared with it.
-mod pieces;
+pub mod pieces;
 
 ghost use mathlib.Core.Path.{_≡_};
 ghost use Prim.Native.Nat.{_+_, _≤_};

@@ -20,7 +20,7 @@ use Rattle.rules.specs.Fences.{Checked, fenced, open-at, ChecksTo}
 use Rattle.rules.specs.DeadCode as dead-code
 use Rattle.fences.specs.Meaning as fences
 use Rattle.lent.specs.Meaning.{Lent, filled, AnsweredWith}
-use Rattle.search.specs.Meaning.{slots-of, SearchOf, SearchPromise}
+use Rattle.search.specs.Meaning.{SearchIn, SearchedIn}
 
 abbrev pub reachable-words : (d states : ℕ) → List ℕ
 reachable-words d states = answer-words (reachable d states)
@@ -63,10 +63,11 @@ pub record RuledOutIn (j : Job) (n : ℕ) : Type 0 where
 abbrev Answers : Job → ℕ → Lent → List ℕ → Lent → Type 0
 Answers j N m ws m′ = AnsweredWith (machine j) slot-size slot-bytes N m ws m′
 
-module _ (bytes : List ℕ) (j : Job) (is : decode bytes ≡ accepted j) (m m′ : Lent) where
-  pub found : (d n : ℕ) → SearchPromise bytes m (reachable-words d n) m′ → FoundIn j d n m m′
+-- with any number of slots, so of a search with an index as of one without
+module _ (bytes : List ℕ) (j : Job) (is : decode bytes ≡ accepted j) (N : ℕ) (m m′ : Lent) where
+  pub found : (d n : ℕ) → SearchedIn N bytes m (reachable-words d n) m′ → FoundIn j d n m m′
   unfolding word
-  found d n h = which (slots-of m) (subst (λ r. SearchOf r m (reachable-words d n) m′) is h)
+  found d n h = which N (subst (λ r. SearchIn N r m (reachable-words d n) m′) is h)
     where
       which : (N : ℕ) → Answers j N m (reachable-words d n) m′ → FoundIn j d n m m′
       which zero k = absurd (let f : 1 ≡ 0 = ap (word 0) (k .answer) in omega arith)
@@ -78,9 +79,9 @@ module _ (bytes : List ℕ) (j : Job) (is : decode bytes ≡ accepted j) (m m′
             buffers = k .buffers;
           }
 
-  pub ruled-out : (n : ℕ) → SearchPromise bytes m (unreachable-words n) m′ → RuledOutIn j n
+  pub ruled-out : (n : ℕ) → SearchedIn N bytes m (unreachable-words n) m′ → RuledOutIn j n
   unfolding word
-  ruled-out n h = which (slots-of m) (subst (λ r. SearchOf r m (unreachable-words n) m′) is h)
+  ruled-out n h = which N (subst (λ r. SearchIn N r m (unreachable-words n) m′) is h)
     where
       which : (N : ℕ) → Answers j N m (unreachable-words n) m′ → RuledOutIn j n
       which zero k = absurd (let f : 2 ≡ 0 = ap (word 0) (k .answer) in omega arith)
@@ -92,16 +93,16 @@ module _ (bytes : List ℕ) (j : Job) (is : decode bytes ≡ accepted j) (m m′
           }
 
 -- "Unknown" is answered exactly when the states up to the goal's distance, or all states if no goal can be reached, outnumber the slots
-module _ (bytes : List ℕ) (j : Job) (is : decode bytes ≡ accepted j) (m m′ : Lent) (ws : List ℕ) (N : ℕ) (slots : slots-of m ≡ suc N) where
+module _ (bytes : List ℕ) (j : Job) (is : decode bytes ≡ accepted j) (m m′ : Lent) (ws : List ℕ) (N : ℕ) where
   unknown-of : (a : Answer) → answer-words a ≡ answer-words (unknown (suc N)) → a ≡ unknown (suc N)
   unfolding word
   unknown-of (reachable d n) e = absurd (let f : 1 ≡ 3 = ap (word 0) e in omega arith)
   unknown-of (unreachable n) e = absurd (let f : 2 ≡ 3 = ap (word 0) e in omega arith)
   unknown-of (unknown n) e = ap {B = Answer} unknown (ap (word 1) e)
 
-  pub unknown-exactly : SearchPromise bytes m ws m′ → (ws ≡ answer-words (unknown (suc N))) ↔ Outnumber (machine j) (suc N)
+  pub unknown-exactly : SearchedIn (suc N) bytes m ws m′ → (ws ≡ answer-words (unknown (suc N))) ↔ Outnumber (machine j) (suc N)
   unknown-exactly h =
-      let k : Answers j (suc N) m ws m′ = subst (λ n. Answers j n m ws m′) slots (subst (λ r. SearchOf r m ws m′) is h) in
+      let k : Answers j (suc N) m ws m′ = subst (λ r. SearchIn (suc N) r m ws m′) is h in
       let exactly = reach-promise.unknown-exactly (searchable j) (suc N) (k .outcome) (k .means) in
       (λ e. exactly .0 (unknown-of (k .outcome .answer) (sym (k .answer) ∙ e)), λ o. k .answer ∙ ap answer-words (exactly .1 o))
 

@@ -8,7 +8,7 @@ use Rattle.rules.specs.Job.{Job}
 use Rattle.rules.specs.File.{Decoded, accepted, refused, decode}
 use Rattle.rules.specs.Asked.{some-clause}
 use Rattle.lent.specs.Meaning.{Lent}
-use Rattle.search.specs.Meaning.{SearchOf, SearchPromise}
+use Rattle.search.specs.Meaning.{SearchIn, SearchedIn}
 use Rattle.replay.specs.Meaning.{ReplayOf, ReplayPromise}
 use Rattle.fences.specs.Meaning.{FenceOf, FencePromise}
 use Rattle.together.specs.Board.{Bytes}
@@ -34,8 +34,8 @@ module _ (bytes : List ℕ) (small : Bytes bytes) where
       which (accepted j) e h = record { job = j; is = e; clause = some-clause bytes small j e }
       which (refused number offset) e h = absurd (answer (ap (λ z. getD z 0 0) (words number offset h)))
 
-  pub search-asks : (m m′ : Lent) (ws : List ℕ) → ¬ (Refusal ws) → SearchPromise bytes m ws m′ → Asks bytes
-  search-asks m m′ ws = asks (λ d. SearchOf d m ws m′) ws (λ number offset r. r .answer)
+  pub search-asks : (N : ℕ) (m m′ : Lent) (ws : List ℕ) → ¬ (Refusal ws) → SearchedIn N bytes m ws m′ → Asks bytes
+  search-asks N m m′ ws = asks (λ d. SearchIn N d m ws m′) ws (λ number offset r. r .answer)
 
   pub replay-asks : (schedule ws : List ℕ) → ¬ (Refusal ws) → ReplayPromise bytes schedule ws → Asks bytes
   replay-asks schedule ws = asks (λ d. ReplayOf d schedule ws) ws (λ number offset r. r)

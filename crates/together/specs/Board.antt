@@ -1,4 +1,5 @@
--- Search SC, sign for TSO: the third demand about the answers that the searches give, whatever memory was lent to each.
+-- Search SC, sign for TSO: the third demand about the answers that the searches give, whatever memory was lent to each, with an index or
+-- without: of any numbers of slots.
 use mathlib.Core.Path.{_≡_, sym, _∙_, ap, subst}
 use mathlib.Core.Logic.{_↔_}
 use mathlib.Core.Bool.{true}
@@ -20,7 +21,7 @@ use Rattle.rules.specs.declared.Model.the-variants.{Sc, Tso}
 use Rattle.signed.specs.Under.{under, under-sc, AllEmpty}
 use Rattle.signed.specs.Signed as signed
 use Rattle.lent.specs.Meaning.{Lent}
-use Rattle.search.specs.Meaning.{SearchPromise}
+use Rattle.search.specs.Meaning.{SearchedIn}
 use Rattle.together.specs.Answered.{reachable-words, unreachable-words, FoundIn, RuledOutIn, fenced-words, found, ruled-out, passed}
 
 abbrev pub Bytes : List ℕ → Type 0
@@ -60,22 +61,22 @@ module _ (sc tso : List ℕ) (j : Job) (c : ℕ) (files : OfOneJob sc tso j c) (
 
   module _ (flag : j .all-empty ≡ true) where
     -- SC searched and found unreachable: no schedule of any length reaches a goal under TSO, at the capacity that the second file says
-    pub sign-for-tso : (m m′ : Lent) (n : ℕ) → SearchPromise sc m (unreachable-words n) m′ → NoGoal (machine (under Tso c j))
-    sign-for-tso m m′ n h =
-        let r = ruled-out sc j (files .sc-is) m m′ n h in
+    pub sign-for-tso : (N : ℕ) (m m′ : Lent) (n : ℕ) → SearchedIn N sc m (unreachable-words n) m′ → NoGoal (machine (under Tso c j))
+    sign-for-tso N m m′ n h =
+        let r = ruled-out sc j (files .sc-is) N m m′ n h in
         signed.no-goal-alike j ok passes flag c room .1 (subst (λ z. NoGoal (machine z)) (sym as-it-stands) (r .means .no-goal))
 
     -- the two searches never contradict each other
-    pub never-contradict : (m m′ l l′ : Lent) (d n k : ℕ)
-        → SearchPromise tso m (reachable-words d n) m′ → SearchPromise sc l (unreachable-words k) l′ → ⊥
-    never-contradict m m′ l l′ d n k h u =
-        let f = found tso (under Tso c j) (files .tso-is) m m′ d n h in
-        let r = subst (λ z. RuledOutIn z k) (sym as-it-stands) (ruled-out sc j (files .sc-is) l l′ k u) in
+    pub never-contradict : (N M : ℕ) (m m′ l l′ : Lent) (d n k : ℕ)
+        → SearchedIn N tso m (reachable-words d n) m′ → SearchedIn M sc l (unreachable-words k) l′ → ⊥
+    never-contradict N M m m′ l l′ d n k h u =
+        let f = found tso (under Tso c j) (files .tso-is) N m m′ d n h in
+        let r = subst (λ z. RuledOutIn z k) (sym as-it-stands) (ruled-out sc j (files .sc-is) M l l′ k u) in
         signed.never-contradict j ok passes flag c room (f .slots) (r .slots) d n k (f .outcome) (r .outcome) (f .means) (r .means)
 
-    pub never-contradict-back : (m m′ l l′ : Lent) (d n k : ℕ)
-        → SearchPromise sc m (reachable-words d n) m′ → SearchPromise tso l (unreachable-words k) l′ → ⊥
-    never-contradict-back m m′ l l′ d n k h u =
-        let f = subst (λ z. FoundIn z d n m m′) (sym as-it-stands) (found sc j (files .sc-is) m m′ d n h) in
-        let r = ruled-out tso (under Tso c j) (files .tso-is) l l′ k u in
+    pub never-contradict-back : (N M : ℕ) (m m′ l l′ : Lent) (d n k : ℕ)
+        → SearchedIn N sc m (reachable-words d n) m′ → SearchedIn M tso l (unreachable-words k) l′ → ⊥
+    never-contradict-back N M m m′ l l′ d n k h u =
+        let f = subst (λ z. FoundIn z d n m m′) (sym as-it-stands) (found sc j (files .sc-is) N m m′ d n h) in
+        let r = ruled-out tso (under Tso c j) (files .tso-is) M l l′ k u in
         signed.never-contradict-back j ok passes flag c room (f .slots) (r .slots) d n k (f .outcome) (r .outcome) (f .means) (r .means)

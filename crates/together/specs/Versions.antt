@@ -3,7 +3,7 @@
 use mathlib.Core.Path.{_≡_, sym, ap, subst, _∙_}
 use mathlib.Core.Logic.{_↔_, _⊎_, inl, inr}
 use mathlib.Core.List.{List}
-use Prim.Native.Nat.{ℕ}
+use Prim.Native.Nat.{ℕ, zero, suc}
 use lib.ListN.{length}
 use Rattle.rules.specs.Limits.{first-version, second-version, length-size}
 use Rattle.rules.specs.Job.{Job, start}
@@ -18,10 +18,11 @@ use Rattle.search.specs.Meaning as search
 
 -- what each promise says of a decoded file, it says of the same job, or the same refusal, in another version
 module _ (version : ℕ) where
-  search-alike : (d : Decoded) (m : Lent) (ws : List ℕ) (m′ : Lent) → search.SearchOf d m ws m′ ↔ search.SearchOf (re-versioned version d) m ws m′
+  search-alike : (N : ℕ) (d : Decoded) (m : Lent) (ws : List ℕ) (m′ : Lent) → search.SearchIn N d m ws m′ ↔ search.SearchIn N (re-versioned version d) m ws m′
   unfolding start step may after may-execute-of may-flush-of has-thread has-variable instruction-at goal
-  search-alike (accepted j) m ws m′ = (λ h. h, λ h. h)
-  search-alike (refused number offset) m ws m′ = (λ h. h, λ h. h)
+  search-alike zero (accepted j) m ws m′ = (λ h. h, λ h. h)
+  search-alike (suc N) (accepted j) m ws m′ = (λ h. h, λ h. h)
+  search-alike N (refused number offset) m ws m′ = (λ h. h, λ h. h)
 
   replay-alike : (d : Decoded) (schedule ws : List ℕ) → replay.ReplayOf d schedule ws ↔ replay.ReplayOf (re-versioned version d) schedule ws
   unfolding start step may after may-execute-of may-flush-of has-thread has-variable instruction-at goal
@@ -35,14 +36,14 @@ module _ (version : ℕ) where
 
 -- the three promises allow the same for the one file as for the other
 pub record SameAnswers (one two : List ℕ) : Type 1 where
-  pub search : (m : Lent) (ws : List ℕ) (m′ : Lent) → search.SearchPromise one m ws m′ ↔ search.SearchPromise two m ws m′
+  pub search : (N : ℕ) (m : Lent) (ws : List ℕ) (m′ : Lent) → search.SearchedIn N one m ws m′ ↔ search.SearchedIn N two m ws m′
   pub replay : (schedule ws : List ℕ) → replay.ReplayPromise one schedule ws ↔ replay.ReplayPromise two schedule ws
   pub check : (ws : List ℕ) → fences.FencePromise one ws ↔ fences.FencePromise two ws
 
 pub same-answers : (one two : List ℕ) → decode two ≡ re-versioned second-version (decode one) → SameAnswers one two
 same-answers one two e =
     record {
-      search = λ m ws m′. subst (λ d. search.SearchPromise one m ws m′ ↔ search.SearchOf d m ws m′) (sym e) (search-alike second-version (decode one) m ws m′);
+      search = λ N m ws m′. subst (λ d. search.SearchedIn N one m ws m′ ↔ search.SearchIn N d m ws m′) (sym e) (search-alike second-version N (decode one) m ws m′);
       replay = λ schedule ws.
           subst (λ d. replay.ReplayPromise one schedule ws ↔ replay.ReplayOf d schedule ws) (sym e) (replay-alike second-version (decode one) schedule ws);
       check = λ ws. subst (λ d. fences.FencePromise one ws ↔ fences.FenceOf d ws) (sym e) (check-alike second-version (decode one) ws);

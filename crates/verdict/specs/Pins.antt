@@ -244,7 +244,7 @@ no-slot-held : Judged (row 0 p9 hold)
 unfolding table
 no-slot-held =
     found-otherwise (row 0 p9 hold) refl 0 (λ e. omega (arith, e))
-    (λ m m′ ws slots s. ap (λ z. getD z 0 0) (none-lent p9 (is-accepted table worked p9 31 12 refl) m m′ ws slots s .0))
+    (λ m m′ ws slots s. ap (λ z. getD z 0 0) (none-lent p9 (is-accepted table worked p9 31 12 refl) (search.slots-of m) m m′ ws slots s .0))
 
 unknown-held : Judged (row 30 p9 hold)
 unfolding pins

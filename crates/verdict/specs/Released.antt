@@ -11,7 +11,7 @@ use Rattle.rules.specs.declared.Model.the-variants.{Sc, Tso}
 use Rattle.signed.specs.Under.{under, under-sc}
 use Rattle.signed.specs.Signed.{no-goal-alike}
 use Rattle.lent.specs.Meaning.{Lent}
-use Rattle.search.specs.Meaning.{SearchPromise}
+use Rattle.search.specs.Meaning.{slots-of, SearchPromise}
 use Rattle.fences.specs.Meaning.{FencePromise}
 use Rattle.together.specs.Answered.{ruled-out, passed}
 use Rattle.together.specs.Board.{Bytes}
@@ -28,7 +28,7 @@ pub released : (bytes : List ℕ) → Bytes bytes → (m : Lent) (v : Verdict) (
 released bytes small m v m′ h e =
     let may = h .releases .0 e in
     let searched : SearchPromise bytes m _ m′ = subst (λ ws. SearchPromise bytes m ws m′) (may .unreachable-only) (h .searched) in
-    let none = ruled-out bytes (job-of bytes) (may .decoded) m m′ (may .states) searched .means .no-goal in
+    let none = ruled-out bytes (job-of bytes) (may .decoded) (slots-of m) m m′ (may .states) searched .means .no-goal in
     let ok = accepted-in bytes small (job-of bytes) (may .decoded) in
     record {
       decoded = may .decoded;

@@ -6,7 +6,7 @@ use native.Mathlib.Omega.{arith}
 use lib.ListN.{length, drop, length-append}
 use Rattle.rules.specs.File.{Decoded, accepted, refused, decode}
 use Rattle.lent.specs.Meaning.{Lent}
-use Rattle.search.specs.Meaning.{words, SearchOf, SearchPromise}
+use Rattle.search.specs.Meaning.{words, slots-of, SearchOf, SearchPromise}
 use Rattle.search.specs.declared.Answer.the-variants.{Reachable}
 use Rattle.together.specs.Answered.{reachable-words, found}
 use Rattle.verdict.specs.declared.Verdict.{Verdict}
@@ -24,7 +24,7 @@ steps-there bytes m v m′ h d n e = which (decode bytes) refl
 
     which : (x : Decoded) → decode bytes ≡ x → d ≤ length (m′ .schedule)
     which (accepted j) is =
-        let f = found bytes j is m m′ d n said in
+        let f = found bytes j is (slots-of m) m m′ d n said in
         let steps = f .outcome .schedule in
         let written = ap (λ z. length (z .schedule)) (f .buffers) in
         omega (arith, written, length-append steps (drop (length steps) (m .schedule)), f .means .first .has .steps)

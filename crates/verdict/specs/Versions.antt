@@ -53,13 +53,13 @@ module _ (one two : List ℕ) (alike : decode two ≡ re-versioned second-versio
       let both = released-both _ _ in (
         λ h.
             record {
-              searched = same .search m _ m′ .0 (h .searched);
+              searched = same .search _ m _ m′ .0 (h .searched);
               checked = same .check _ .0 (h .checked);
               releases = (λ r. both .0 (h .releases .0 r), λ k. h .releases .1 (both .1 k));
             },
         λ h.
             record {
-              searched = same .search m _ m′ .1 (h .searched);
+              searched = same .search _ m _ m′ .1 (h .searched);
               checked = same .check _ .1 (h .checked);
               releases = (λ r. both .1 (h .releases .0 r), λ k. h .releases .1 (both .0 k));
             },

@@ -1,12 +1,14 @@
 //! Writes the cases that a proved program is run on, and the output that this checker expects of it.
 
 use second::classes::counts_line;
-use second::{fence_cases, job_cases, replay_cases, search_cases};
+use second::random::Sizes;
+use second::search_cases::Index;
+use second::{fence_cases, index_cases, job_cases, replay_cases, search_cases};
 use std::path::Path;
 use std::process::ExitCode;
 use std::{env, fs, io};
 
-const USAGE: &str = "use one of (each writes DIR/stdin and DIR/stdout, and prints how many cases have long threads, how many are of version 2 and how many of version 3, replay also how many are stuck by which reason, fences how many have dead code):
+const USAGE: &str = "use one of (each writes DIR/stdin and DIR/stdout, and prints how many cases have long threads, how many are of version 2 and how many of version 3, search also how many have an index, replay how many are stuck by which reason, fences how many have dead code):
   cases job DIR
   cases search DIR
   cases replay DIR
@@ -85,6 +87,7 @@ fn of_search() -> Kind {
                 "search_cases, version 3",
                 &search_cases::counts_of_version_three(),
             ),
+            counts_line("search_cases, index", &index_cases::counts()),
         ]
         .join("\n"),
     }
@@ -135,13 +138,23 @@ fn counted(job: &[u8]) -> Vec<u8> {
     [&(job.len() as u16).to_be_bytes()[..], job].concat()
 }
 
-/// A case of the search: the three sizes, four bytes each, and the job.
+/// Says in place of an index's length that there is none: the plain search.
+const NO_INDEX: u32 = u32::MAX;
+
+/// A case of the search: the three sizes, the index's length and the first number of its fill, four bytes each, and the job.
 fn sized(case: &search_cases::Case) -> Vec<u8> {
-    let sizes = [case.sizes.table, case.sizes.links, case.sizes.schedule];
-    let mut bytes: Vec<u8> = sizes
-        .iter()
-        .flat_map(|&size| (size as u32).to_be_bytes())
-        .collect();
+    let Sizes {
+        table,
+        links,
+        schedule,
+    } = case.sizes;
+    let index = match case.index {
+        None => [NO_INDEX, 0],
+        Some(Index { count, first }) => [count as u32, first],
+    };
+    let sizes = [table, links, schedule].map(|size| size as u32);
+    let numbers = sizes.into_iter().chain(index);
+    let mut bytes: Vec<u8> = numbers.flat_map(u32::to_be_bytes).collect();
     bytes.extend(counted(&case.job));
     bytes
 }
@@ -152,4 +165,32 @@ fn scheduled(case: &replay_cases::Case) -> Vec<u8> {
     bytes.extend(counted(&case.job));
     bytes.extend(&case.schedule);
     bytes
+}
+
+#[cfg(test)]
+mod tests {
+    use super::*;
+    use second::search_cases::Case;
+
+    #[test]
+    fn a_case_says_whether_it_has_an_index() {
+        let sizes = Sizes {
+            table: 0x0001_0203,
+            links: 4,
+            schedule: 5,
+        };
+        let mut case = Case::plain(sizes, vec![7, 8, 9]);
+        let sized_so = [0, 1, 2, 3, 0, 0, 0, 4, 0, 0, 0, 5];
+        let no_index = [255, 255, 255, 255, 0, 0, 0, 0];
+        let job = [0, 3, 7, 8, 9];
+        let plain = [&sized_so[..], &no_index, &job].concat();
+        assert_eq!(sized(&case), plain);
+        case.index = Some(Index {
+            count: 0x0304,
+            first: 0xFEDC_BA98,
+        });
+        let index = [0, 0, 3, 4, 0xFE, 0xDC, 0xBA, 0x98];
+        let with_index = [&sized_so[..], &index, &job].concat();
+        assert_eq!(sized(&case), with_index);
+    }
 }

@@ -7,7 +7,7 @@ use native.Mathlib.Nat.{eq-or-lt-of-le}
 use native.Mathlib.Omega.{arith}
 use lib.ListN.{length}
 use Rattle.lent.specs.Parts.{slot-at}
-use Rattle.shelf.specs.Front.{slot-room}
+use Rattle.chains.specs.ChainLaws.{slot-room}
 use Rattle.shelf.proofs.known.Statement.{statement}
 use Rattle.shelf.proofs.known.Tie as tie
 
