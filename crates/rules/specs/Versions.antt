@@ -142,6 +142,8 @@ abbrev Nothing : {A : Type 0} → A → Type 0
 Nothing a = ⊥
 
 some_nothing : {A : Type 0} (l : List A) → Some Nothing l → ⊥
+some_nothing [] h = elim h [ ]
+some_nothing (a ∷ l) (inl h) = elim h [ ]
 some_nothing (a ∷ l) (inr h) = some_nothing l h
 
 -- The values of items, side by side; `Added` tells where the second file alone may give one.
