@@ -5,7 +5,7 @@ use mathlib.Core.Bool.{Bool, not}
 use mathlib.Core.List.{List}
 use mathlib.Core.Option.{none, some}
 use Prim.Native.Nat.{ℕ, suc, ◌+◌}
-use native.Mathlib.Numerals.{add_one}
+use native.Mathlib.Numerals.{add-one}
 use lib.Dec.{T}
 use lib.ListN.{get_elem?}
 use mir.Val.{has_key}
@@ -47,7 +47,7 @@ unfolding role_at
 role_past code p e = rw (e, role_at)
 
 pub put_next : {m p r : ℕ} → Put m (p + 1) r → Put m (suc p) r
-put_next {m} {p} {r} = subst (λ x. Put m x r) (add_one p)
+put_next {m} {p} {r} = subst (λ x. Put m x r) (add-one p)
 
 -- the successors by the control of the instruction that stands there
 pub successors_at : (code : List Instr) (p : ℕ) (i : Instr) (m r : ℕ)

@@ -1,8 +1,8 @@
 -- `engine::flushes` meets its contract. The invariant: the mask has the enabled steps below 4 + 8t + v. Variables from V up have none.
 use mathlib.Core.Path.{◌≡◌, ap, sym, ◌∙◌}
 use Prim.Native.Nat.{ℕ, ◌+◌, ◌-◌, ◌*◌, ◌^◌, ◌≤◌, ◌<◌}
-use native.Mathlib.Nat.{add_zero}
-use native.Mathlib.Numerals.{add_one}
+use native.Mathlib.Nat.{add-zero}
+use native.Mathlib.Numerals.{add-one}
 use native.Mathlib.Omega.{arith}
 use lib.ListN.{length}
 use Rattle.bits.specs.BitLaws.{added_below}
@@ -38,7 +38,7 @@ returns c = λ j x of e.
     e ∙ empty_adds_none j x _ pre.1.1.0 of.thread few empty
 
 loop-holds : tie.Need-loop-init invariant-loop decreases-loop
-loop-holds c = (omega arith, rw add_zero c.before.before.requires.1.1.1, λ j x of e. e ∙ rw add_zero)
+loop-holds c = (omega arith, rw add-zero c.before.before.requires.1.1.1, λ j x of e. e ∙ rw add-zero)
 
 may-flush-requires : tie.Need-may-flush-requires invariant-loop decreases-loop
 may-flush-requires c κs = c.before.before.before.before.requires.0
@@ -73,7 +73,7 @@ loop-again c =
     let step : ℕ = most_threads + most_variables * start.args.t + l.v in
     let more : most_threads + most_variables * start.args.t + (l.v + 1) ≡ step + 1 = omega arith in (
       omega (arith, below),
-      rw (more, add_one, c.with-bit.ensures) (added_below c.before.is_yes.result _ step l.invariant.1),
+      rw (more, add-one, c.with-bit.ensures) (added_below c.before.is_yes.result _ step l.invariant.1),
       λ j x of e.
           let used : l.v < length j.initial = omega (arith, below, of.variables) in
           let may = c.before.before.may_flush.ensures ∙ may_flush_at j x _ _ start.requires.1.1.0 small of.thread used of.model of.stores in

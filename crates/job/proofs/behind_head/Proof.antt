@@ -1,7 +1,7 @@
 -- `job::behind_head` meets its contract: the initial values are there or not; then the threads and the goal decide.
 use mathlib.Core.Path.{◌≡◌, sym, ap, ◌∙◌}
 use Prim.Native.Nat.{◌+◌, ◌-◌, ◌*◌, ◌/◌, ◌≤◌}
-use native.Mathlib.Nat.{mul_div_le}
+use native.Mathlib.Nat.{mul-div-le}
 use native.Mathlib.Omega.{arith}
 use borrow.Author.Rules.{rules}
 use lib.ListN.{length}
@@ -64,7 +64,7 @@ div-whole c = omega (arith, c.before.before.value_size.ensures, size_positive c.
 inside : (c : tie.Then1) →
     let length = length c.before.before.before.before.before.before.before.args.job.now in
     c.before.before.value_size.result * ((length - head_size) / c.before.before.value_size.result) ≤ length - head_size
-inside c = mul_div_le _ _
+inside c = mul-div-le _ _
 
 mul-t15 : tie.Need-overflow-mul-t15
 mul-t15 c = omega (arith, inside c)

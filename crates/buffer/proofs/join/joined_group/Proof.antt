@@ -1,5 +1,5 @@
 -- `buffer::join::joined_group` meets its contract: the newest, or behind a WFENCE the next.
-use native.Mathlib.Numerals.{add_one}
+use native.Mathlib.Numerals.{add-one}
 use borrow.Author.Rules.{rules}
 use borrow.Author.Tests.{le-leb, lt-leb}
 use Rattle.rules.specs.Step.{joined_group}
@@ -14,7 +14,7 @@ add-result c = search rules
 
 returns : tie.Need-returns
 unfolding joined_group
-returns c = rw (le-leb _ _ c.if1.true, add_one, c.before.before.newest_group.ensures.0)
+returns c = rw (le-leb _ _ c.if1.true, add-one, c.before.before.newest_group.ensures.0)
 
 returns-2 : tie.Need-returns-2
 unfolding joined_group

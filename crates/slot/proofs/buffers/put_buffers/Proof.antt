@@ -1,7 +1,7 @@
 -- `slot::buffers::put_buffers` meets its contract: the buffers done so far are over the table.
 use mathlib.Core.Path.{◌≡◌, refl, ap, ◌∙◌}
 use Prim.Native.Nat.{◌+◌, ◌*◌, ◌<◌, ◌≤◌, ◌-◌}
-use native.Mathlib.Numerals.{add_one}
+use native.Mathlib.Numerals.{add-one}
 use native.Mathlib.Omega.{arith}
 use lib.ListN.{length, get_or, take}
 use lib.Seq.{take-length}
@@ -61,7 +61,7 @@ loop-again c =
     let below : done < length given.t3.bufs = omega (arith, sizes.buffers_number) in
     let again = laid_buffer given.table.now given.at given.t3.bufs sizes.full done below (omega arith) in (
       omega arith,
-      rw add_one (record {
+      rw add-one (record {
         is = put.is ∙ ap (λ l. laid l (given.at + buffer_size * done) next) so_far.is ∙ again;
         size = put.size ∙ so_far.size;
       }),

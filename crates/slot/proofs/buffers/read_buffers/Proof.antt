@@ -1,7 +1,7 @@
 -- `slot::buffers::read_buffers` meets its contract: the buffers so far are read.
 use mathlib.Core.Path.{◌≡◌, refl}
 use Prim.Native.Nat.{◌≤◌, ◌-◌}
-use native.Mathlib.Numerals.{add_one}
+use native.Mathlib.Numerals.{add-one}
 use native.Mathlib.Omega.{arith}
 use lib.ListN.{length, take, length-set}
 use lib.Seq.{take_all}
@@ -52,7 +52,7 @@ loop-again c =
     let next = c.read-buffer in (
       omega arith,
       simp length-set at-loop.loop.invariant.1,
-      rw add_one (read_more given.table.now given.at l read next.result (omega arith) at-loop.loop.invariant.2 next.ensures),
+      rw add-one (read_more given.table.now given.at l read next.result (omega arith) at-loop.loop.invariant.2 next.ensures),
     )
 
 returns : tie.Need-returns invariant-loop decreases-loop

@@ -4,14 +4,10 @@ use Prim.Native.Nat.{◌^◌, ◌<◌}
 use native.Mathlib.Omega.{arith}
 use Rattle.bits.specs.Bits.{width, Counted}
 use Rattle.bits.specs.BitLaws.{count_is_ones, count_law}
-use Rattle.bits.proofs.count.Statement.{statement}
-use Rattle.bits.proofs.count.Tie as tie
+use Rattle.bits.proofs.count.Goals as goal
 
-returns : tie.Need-returns
+pub returns : goal.returns
 returns c =
     let m = c.args.m in
     let fits : m < 2 ^ width = omega arith in
     subst (Counted m) (sym (count_is_ones width m fits)) (count_law m fits)
-
-pub count_spec : {M : Type 1} → statement M
-count_spec = tie.close (tie.spec returns)
