@@ -27,10 +27,6 @@ use Rattle.job.specs.declared.PlaceRead.{PlaceRead}
 use Rattle.job.specs.declared.PlaceRead.TheVariants.{Holds, Ended}
 use Rattle.fences.specs.Places.{thread_of, Tells, tells_same, Onwards, Joined}
 
--- where a role is one of others, by their numbers in the order of the type
-pub other_role : (ks : List ℕ) (own r : Role) → OneOf ks (tag_of role.the_type own) → T (not (has_key ks (tag_of role.the_type r))) → ¬ (own ≡ r)
-other_role ks own r keys absent e = miss ks _ absent (subst (λ z. OneOf ks (tag_of role.the_type z)) e keys)
-
 module _ (bytes : List ℕ) (t p : ℕ) (r : PlaceRead) (read : place_of r ≡ instruction_at (job_of bytes) t p) where
   read_at : place_of r ≡ get_elem? (thread_of bytes t) p
   read_at = read ∙ instruction_of_thread (job_of bytes) t p
