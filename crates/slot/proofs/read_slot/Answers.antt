@@ -9,5 +9,5 @@ returns c =
     let memory = c.read_bytes-3 in
     let buffers = c.read_buffers-bufs in
     read_parts c.args.table.now c.args.i c.requires
-    places.new.0 registers.new.0 memory.new.0 buffers.result
+    places.new.out registers.new.out memory.new.out buffers.result
     places.ensures registers.ensures memory.ensures buffers.ensures

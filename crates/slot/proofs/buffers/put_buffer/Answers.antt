@@ -7,7 +7,7 @@ use Rattle.span.specs.SpanLaws.{laid_cons}
 use Rattle.slot.proofs.buffers.put_buffer.Goals as goal
 
 pub put_bytes-requires : goal.put_bytes-requires
-put_bytes-requires c = simp length-set (omega (arith, c.put_bytes-arg-3-1.given.0))
+put_bytes-requires c = simp length-set (omega (arith, c.put_bytes-arg-3-1.given))
 
 pub shape_of-table : goal.shape_of-table
 shape_of-table c = c.put_bytes.auto.table ∙ simp length-set
@@ -16,6 +16,6 @@ pub returns : goal.returns
 unfolding buffer_bytes
 returns c =
     let given = c.args in
-    let full = c.put_bytes-arg-3-1.given.0 in
+    let full = c.put_bytes-arg-3-1.given in
     let entries = laid_cons given.table.now given.at given.b.count given.b.slots (omega (arith, full, c.requires)) in
-    record { is = c.put_bytes.ensures.is ∙ entries; size = same_length c }
+    record { is = c.put_bytes.ensures.is ∙ entries; size = c.put_bytes.auto.table ∙ simp length-set }

@@ -43,4 +43,7 @@ shape_of-table c = c.loop-done.invariant.1.size
 
 pub returns : goal.returns
 returns c =
-    let h = c.type_inv in ?
+    let sizes = sized (goal.at.returns c).Start in
+    let all : c.loop-done.done ≡ length c.args.x.bufs = omega (arith, sizes.buffers_number) in
+    let laid_all = c.loop-done.invariant.1 in
+    record { is = laid_all.is ∙ rw (all, take-length); size = laid_all.size }

@@ -5,4 +5,4 @@ use Rattle.slot.proofs.buffers.read_buffer.Goals as goal
 pub returns : goal.returns
 returns c =
     let read = c.read_bytes in
-    read_buffer_bytes c.args.table.now c.args.at read.new.0 c.requires read.ensures
+    read_buffer_bytes c.args.table.now c.args.at read.new.out c.requires read.ensures
