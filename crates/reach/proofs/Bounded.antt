@@ -8,7 +8,7 @@ use native.Mathlib.Omega.{arith}
 use Rattle.std.proofs.Math.ListN.{length, length-append}
 use Rattle.reach.specs.Searchable.{Searchable}
 use Rattle.reach.specs.Rows.{Row, Met, known, keep, keep_new, put_unless, put, put_all}
-use Rattle.reach.specs.PutLaws.{put_all_full}
+use Rattle.reach.proofs.PutLaws.{put_all_full}
 use Rattle.reach.specs.Growth.{add_unless, add, add_all}
 
 module _ (E : Searchable) where
