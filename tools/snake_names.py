@@ -13,7 +13,7 @@ import re
 
 # a word of antt or of a clause: what stands between blanks, brackets, commas, dots and semicolons
 WORD = re.compile(r"[^\s(){}\[\].,;|\\λ`\"]+")
-LENT = re.compile(r"use (?:Rattle\.(?:std|core|std_\w+|io|libc|os)|lib|mathlib|borrow|Prim)(?:\.[\w]+)*\.\{([^}]*)\}")
+LENT = re.compile(r"use (?:Rattle\.(?:std|core|std_\w+|io|libc|os)|lib|mathlib|borrow|Prim|native|denote|mir|types)(?:\.[\w]+)*\.\{([^}]*)\}")
 ALIAS = re.compile(r"use [\w.]+ as ([\w-]+)")
 
 

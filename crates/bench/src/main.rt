@@ -1,9 +1,16 @@
 // The bench program: 01, "Bench program". Reads a job from standard input, and prints the answers and the verdict.
+#![tactic(auto)]
+
 ghost use Rattle.std.specs.Prelude.{◌≡◌, ℕ, ◌≤◌, ◌<◌, length};
 ghost use Rattle.search.specs.declared.Answer.TheVariants.{Reachable};
 ghost use Rattle.bench.specs.Hex.{capital, two_digits};
 
-use libc::{STDERR_FILENO, STDIN_FILENO, STDOUT_FILENO};
+use std::io::Read;
+
+// The standard streams, by the numbers under which `io` takes them.
+const STDOUT_FILENO: i32 = 1;
+
+const STDERR_FILENO: i32 = 2;
 
 // One byte more than the longest job has: whatever is longer is refused, so the rest need not be read.
 const INPUT_ROOM: usize = rules::LONGEST_FILE + 1;
@@ -13,32 +20,36 @@ const SLOTS: usize = 400;
 const TABLE_SIZE: usize = SLOTS * rules::SLOT_SIZE;
 
 // How many bytes were read, and whether a read failed: a part of a job is not the job.
-#[derive(Drop)]
+#[derive(Clone, Copy)]
 struct Input {
     count: usize,
     failed: bool,
 }
 
 // One read to the front of the room: it brings nothing at the end of the input, and where it fails.
-fn read_some(room: &mut [u8]) -> Input
+fn read_some(rt: &HostRuntime, room: &mut [u8]) -> Input
     ensures { result.count ≤ length room.new }
 {
-    let got = libc::read(STDIN_FILENO, room);
-    let count = io::count(got, room);
-    Input {
-        count,
-        failed: got < 0,
+    match rt.stdin().read(room) {
+        Ok(count) => Input {
+            count,
+            failed: false,
+        },
+        Err(_) => Input {
+            count: 0,
+            failed: true,
+        },
     }
 }
 
 // Reads to the end of the input or of the room, however the bytes arrive.
-fn read_input(room: &mut [u8]) -> Input
+fn read_input(rt: &HostRuntime, room: &mut [u8]) -> Input
     ensures { result.count ≤ length room.new }
 {
     let mut count = 0;
     let mut failed = false;
     while count < room.len() {
-        let got = read_some(&mut room[count..]);
+        let got = read_some(rt, &mut room[count..]);
         let more = got.count;
         if more == 0 {
             failed = got.failed;
@@ -165,9 +176,9 @@ fn answer(job: &[u8]) {
     }
 }
 
-fn main() {
+fn main(rt: HostRuntime) {
     let mut room = [0u8; INPUT_ROOM];
-    let input = read_input(&mut room);
+    let input = read_input(&rt, &mut room);
     if input.failed {
         io::write_all(
             STDERR_FILENO,

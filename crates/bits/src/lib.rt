@@ -1,4 +1,6 @@
 // A set of numbers below 64 as one u64: bit s is set when s is in the set.
+#![tactic(auto)]
+
 ghost use Rattle.std.specs.Prelude.{◌≡◌, ◌+◌, eqb};
 ghost use Rattle.bits.specs.Bits.{bit_of, weight, Behind, Lowest, WithoutLowest, Counted, Put};
 

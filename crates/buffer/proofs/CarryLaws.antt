@@ -3,7 +3,7 @@ use mathlib.Core.Path.{◌≡◌, sym, ap, ap₂, subst, ◌∙◌}
 use mathlib.Core.Bool.{false}
 use mathlib.Core.List.{List}
 use Prim.Native.Nat.{ℕ, suc, ◌+◌, ◌*◌, ◌-◌, ◌≤◌, ◌<◌}
-use native.Mathlib.Numerals.{add_one}
+use native.Mathlib.Numerals.{add-one}
 use native.Mathlib.Omega.{arith}
 use lib.Dec.{leb}
 use lib.ListN.{length, get_or, set, length-set, get_or-eq_default}
@@ -52,7 +52,7 @@ carried_up s v h k i all c few =
       small = low_at most_pending s c.size i c.lows;
       is =
           changed s v h k i c.size (i + 1)
-          ∙ ap (λ j. with_at j (get_or (entries s) i no_entry) (set (entries s) i (entry v (word h k)))) (add_one i)
+          ∙ ap (λ j. with_at j (get_or (entries s) i no_entry) (set (entries s) i (entry v (word h k)))) (add-one i)
           ∙ carry_up (entries s) i (entry v (word h k)) no_entry (below s v h k i c.size few)
           ∙ c.is;
     }

@@ -3,7 +3,7 @@ use mathlib.Core.Path.{◌≡◌, refl, sym, ap, ap₂, subst, ◌∙◌}
 use mathlib.Core.Bool.{Bool, true, false, not, ◌&&◌}
 use mathlib.Core.List.{List, [], ◌∷◌, ◌++◌}
 use Prim.Native.Nat.{ℕ, zero, suc, ◌+◌, ◌*◌, ◌-◌, ◌/◌, ◌%◌, ◌≤◌, ◌<◌}
-use native.Mathlib.Numerals.{add_one}
+use native.Mathlib.Numerals.{add-one}
 use native.Mathlib.Omega.{arith}
 use lib.Dec.{leb}
 use lib.ListN.{length, get_or, set, take, drop, replicate, length-set}
@@ -113,7 +113,7 @@ module _ (b : Buf) (ok : BufferOk b) where
               entries_set most_pending s h.size i byte high low
               ∙ ap₂ (λ r p. set r i p) h.is (lowered_entry ∙ ap (lower g) (sym (entries_at most_pending b.slots ok.size i)))
               ∙ lower_one g all i below
-              ∙ sym (ap (λ n. lowered g (take n all) ++ drop n all) (add_one i));
+              ∙ sym (ap (λ n. lowered g (take n all) ++ drop n all) (add-one i));
         }
 
     pub lowering_ends : (s : List ℕ) (i : ℕ) → i ≡ number b → Lowering (entries b.slots) g s i

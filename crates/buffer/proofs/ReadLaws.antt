@@ -3,7 +3,7 @@ use mathlib.Core.Path.{◌≡◌, refl, sym, ap, ◌∙◌}
 use mathlib.Core.Bool.{Bool, true, false, not, cond, ◌&&◌}
 use mathlib.Core.List.{List, [], ◌∷◌}
 use Prim.Native.Nat.{ℕ, suc, ◌+◌, ◌≤◌, ◌<◌}
-use native.Mathlib.Nat.{zero_add}
+use native.Mathlib.Nat.{zero-add}
 use native.Mathlib.Omega.{arith}
 use lib.Dec.{eqb}
 use borrow.Author.Tests.{ne_eqb}
@@ -44,7 +44,7 @@ module _ (b : Buf) (ok : BufferOk b) where
 
   module _ (f : Pending → Bool) where
     pub search_starts : Searched f b 0
-    search_starts = record { within = omega arith; is = zero_add (first f (held_pending b)) }
+    search_starts = record { within = omega arith; is = zero-add (first f (held_pending b)) }
 
     pub search_finds : (i : ℕ) → i < number b → f (entry_at b.slots i) ≡ true → Searched f b i → i ≡ first f (held_pending b)
     unfolding first

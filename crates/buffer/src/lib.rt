@@ -1,4 +1,6 @@
 // A thread's store buffer: pending stores that go in by value and come back.
+#![tactic(auto)]
+
 ghost use Rattle.std.specs.Prelude.{◌≡◌, length};
 ghost use Rattle.rules.specs.State.{empty_buffer};
 ghost use Rattle.rules.specs.Step as rules;
@@ -12,14 +14,14 @@ pub mod join; // a store joins
 
 // The count byte: how many stores are pending, and 128 more while a WFENCE stands after the newest. Then an entry of three bytes for each
 // store: 16 times its group plus its variable, and its value, the higher byte first; unused entries are 0.
-#[derive(Drop)]
+#[derive(Clone, Copy)]
 pub struct Buf {
     pub count: u8,
     pub slots: [u8; ENTRIES_SIZE],
 }
 
 // What a flush takes: the value of a store, and the buffer without it.
-#[derive(Drop)]
+#[derive(Clone, Copy)]
 pub struct Taken {
     pub value: u16,
     pub rest: Buf,

@@ -1,22 +1,28 @@
 // What the case programs share: how a case is read from standard input. Its numbers are big-endian.
+#![tactic(auto)]
+
 ghost use Rattle.std.specs.Prelude.{◌≡◌, ◌<◌, ◌≤◌, eqb, length};
 ghost use Rattle.cases.specs.Number.{UpTo};
 
-use libc::STDIN_FILENO;
 use rules::BYTE_VALUES;
+
+// The standard streams, by the numbers under which `io` takes them.
+const STDIN_FILENO: i32 = 0;
+
+pub const STDOUT_FILENO: i32 = 1;
 
 // Room for a case's job: twice the longest that is accepted, so that there is one for what is longer too.
 pub const JOB_ROOM: usize = 2 * rules::LONGEST_FILE;
 
 // A number of a case, or that the input ended before it.
-#[derive(Drop)]
+#[derive(Clone, Copy)]
 pub enum Number {
     Is(usize),
     Ended,
 }
 
 // How many bytes were read to the front of a room, and whether they are all that was asked for.
-#[derive(Drop)]
+#[derive(Clone, Copy)]
 pub struct Got {
     pub end: usize,
     pub whole: bool,

@@ -85,19 +85,19 @@ module _ (size : ℕ) (table index : List ℕ) (width count c : ℕ) (h : Indexe
       ∙ get_or-set_other index (width + count) p (get_or index c 0) 0 m
 
   -- slots that were on a chain still are
-  on_more : (number i : ℕ) → number ≤ count → On index width i number → On more width i number
-  on_more number i few (here n e) = here number e
-  on_more number i few (behind n k e on) =
+  on_more : (i number : ℕ) → number ≤ count → On index width i number → On more width i number
+  on_more i number few (here n e) = here number e
+  on_more i number few (behind n k e on) =
       let same = more_other (width + k) (λ q. omega (arith, q, below)) (λ q. omega (arith, q, e)) in
       behind number k e
-      (subst (On more width i) (sym same) (on_more (get_or index (width + k) 0) i (omega (arith, h.befores k (omega (arith, e)), e)) on))
+      (subst (On more width i) (sym same) (on_more i (get_or index (width + k) 0) (omega (arith, h.befores k (omega (arith, e)), e)) on))
 
   -- on whatever chain
   on_chain : (d i : ℕ) → d < width → On index width i (get_or index d 0) → On more width i (get_or more d 0)
   on_chain d i inside on = which (ℕ_discrete d c)
     where
       on' : On more width i (get_or index d 0)
-      on' = on_more (get_or index d 0) i (h.firsts d inside) on
+      on' = on_more i (get_or index d 0) (h.firsts d inside) on
 
       which : Dec (d ≡ c) → On more width i (get_or more d 0)
       which (yes e) =

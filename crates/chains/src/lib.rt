@@ -1,4 +1,6 @@
 // An index over the slots of a table: chains of slots, each from its newest back, so that bytes are looked up on the one chain that they belong to.
+#![tactic(auto)]
+
 pub mod sums;
 
 ghost use Rattle.std.specs.Prelude.{◌≡◌, ◌+◌, ◌*◌, ◌≤◌, ◌<◌, length};

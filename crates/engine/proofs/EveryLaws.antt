@@ -4,7 +4,7 @@ use mathlib.Core.Bool.{Bool, true, ◌&&◌}
 use mathlib.Core.List.{List, ◌∷◌}
 use mathlib.Core.Option.{some}
 use Prim.Native.Nat.{ℕ, ◌+◌, ◌≤◌, ◌<◌}
-use native.Mathlib.Numerals.{add_one}
+use native.Mathlib.Numerals.{add-one}
 use lib.ListN.{length, drop, get_elem?, drop_of_length-le}
 use lib.Seq.{drop-cons}
 use Rattle.reach.specs.ListLaws.{at_below, at_getD}
@@ -15,7 +15,7 @@ module _ {A : Type 0} (f : A → Bool) (l : List A) (i : ℕ) where
     first_left : drop i l ≡ x ∷ drop (i + 1) l
     first_left =
         let h : i < length l = at_below l i x at in
-        rw (add_one, drop-cons l i x h, at_getD l i x x at)
+        rw (add-one, drop-cons l i x h, at_getD l i x x at)
 
     pub test_first : {b : Bool} → f x ≡ b → every f (drop i l) ≡ (b && every f (drop (i + 1) l))
     unfolding every

@@ -4,8 +4,8 @@ use mathlib.Core.Logic.{inl, inr}
 use mathlib.Core.Bool.{Bool, true, false, false≢true}
 use mathlib.Core.List.{List, [], ◌∷◌}
 use Prim.Native.Nat.{ℕ, zero, suc, ◌+◌, ◌-◌, ◌*◌, ◌^◌, ◌≤◌, ◌<◌}
-use native.Mathlib.Nat.{add_zero, add_suc}
-use native.Mathlib.Numerals.{add_one}
+use native.Mathlib.Nat.{add-zero, add-suc}
+use native.Mathlib.Numerals.{add-one}
 use native.Mathlib.Omega.{arith}
 use lib.ListN.{length}
 use Rattle.rules.specs.Limits.{most_threads, most_variables, step_bound}
@@ -39,16 +39,16 @@ module _ (j : Job) (x : State) where
   pub enabled_more :
       (n m r : ℕ) (b : Bool) → m ≡ enabled_below j x n → b ≡ is_yes (may j n x) → r ≡ m + weight b n → r ≡ enabled_below j x (n + 1)
   enabled_more n m r b e o h =
-      h ∙ ap₂ (λ y b. y + weight b n) e o ∙ sym (ap (enabled_below j x) (add_one n) ∙ (enabled_builds j x).more n)
+      h ∙ ap₂ (λ y b. y + weight b n) e o ∙ sym (ap (enabled_below j x) (add-one n) ∙ (enabled_builds j x).more n)
 
   -- steps that may not be taken add nothing
   none_more : (n k : ℕ) → ((i : ℕ) → i < k → is_yes (may j (n + i) x) ≡ false) → enabled_below j x (n + k) ≡ enabled_below j x n
-  none_more n zero h = rw add_zero
+  none_more n zero h = rw add-zero
   none_more n (suc k) h =
-      ap (enabled_below j x) (add_suc n k)
+      ap (enabled_below j x) (add-suc n k)
       ∙ (enabled_builds j x).more (n + k)
       ∙ ap (λ b. enabled_below j x (n + k) + weight b (n + k)) (h k (omega arith))
-      ∙ add_zero (enabled_below j x (n + k))
+      ∙ add-zero (enabled_below j x (n + k))
       ∙ none_more n k (λ i l. h i (omega arith))
 
   -- up to another number

@@ -1,4 +1,6 @@
 // The machine of a job: its start, the steps that may be taken, what a step does, and its goal.
+#![tactic(auto)]
+
 ghost use Rattle.std.specs.Prelude.{◌≡◌, ◌+◌, ◌*◌, ◌^◌, ◌≤◌, ◌<◌};
 ghost use Rattle.rules.specs.Limits.{most_threads, most_variables};
 ghost use Rattle.rules.specs.State as states;

@@ -1,6 +1,8 @@
 // Checks the fences of each case on standard input and prints a line for it. A case is a count, two bytes, and then so many bytes.
+#![tactic(auto)]
+
+use cases::STDOUT_FILENO;
 use fences::Answer;
-use libc::STDOUT_FILENO;
 
 // A blank, and the number in decimal.
 fn print_number(n: u64) {

@@ -5,7 +5,7 @@ use mathlib.Core.Bool.{Bool, not}
 use mathlib.Core.List.{List}
 use mathlib.Core.Option.{none, some}
 use Prim.Native.Nat.{ℕ, suc, ◌+◌}
-use native.Mathlib.Numerals.{add_one}
+use native.Mathlib.Numerals.{add-one}
 use lib.Dec.{T}
 use lib.ListN.{get_elem?}
 use mir.Val.{has_key}
@@ -27,10 +27,6 @@ use Rattle.job.specs.declared.PlaceRead.{PlaceRead}
 use Rattle.job.specs.declared.PlaceRead.TheVariants.{Holds, Ended}
 use Rattle.fences.specs.Places.{thread_of, Tells, tells_same, Onwards, Joined}
 
--- where a role is one of others, by their numbers in the order of the type
-pub other_role : (ks : List ℕ) (own r : Role) → OneOf ks (tag_of role.the_type own) → T (not (has_key ks (tag_of role.the_type r))) → ¬ (own ≡ r)
-other_role ks own r keys absent e = miss ks _ absent (subst (λ z. OneOf ks (tag_of role.the_type z)) e keys)
-
 module _ (bytes : List ℕ) (t p : ℕ) (r : PlaceRead) (read : place_of r ≡ instruction_at (job_of bytes) t p) where
   read_at : place_of r ≡ get_elem? (thread_of bytes t) p
   read_at = read ∙ instruction_of_thread (job_of bytes) t p
@@ -47,7 +43,7 @@ unfolding role_at
 role_past code p e = rw (e, role_at)
 
 pub put_next : {m p r : ℕ} → Put m (p + 1) r → Put m (suc p) r
-put_next {m} {p} {r} = subst (λ x. Put m x r) (add_one p)
+put_next {m} {p} {r} = subst (λ x. Put m x r) (add-one p)
 
 -- the successors by the control of the instruction that stands there
 pub successors_at : (code : List Instr) (p : ℕ) (i : Instr) (m r : ℕ)

@@ -1,4 +1,6 @@
 // Fence check: 01, "Replay and fence check", and 02, request 4. Any bytes as a job; nothing is written.
+#![tactic(auto)]
+
 ghost use Rattle.std.specs.Prelude.{◌≡◌, ◌<◌, length};
 ghost use Rattle.rules.specs.File.{job_of};
 ghost use Rattle.rules.specs.Fences as rules;
@@ -10,7 +12,7 @@ use job::{Decoded, Layout, PlaceRead};
 use rules::{Control, Passing, Role};
 
 // What a fence check answers: the refusal's number and offset; no pair is open; the least open pair, its thread, store place and load place.
-#[derive(Drop)]
+#[derive(Clone, Copy)]
 pub enum Answer {
     Refused(u8, usize),
     Fenced,
@@ -18,7 +20,7 @@ pub enum Answer {
 }
 
 // The least open pair of one thread, if it has one.
-#[derive(Drop)]
+#[derive(Clone, Copy)]
 struct Pair {
     found: bool,
     store: u8,

@@ -1,4 +1,6 @@
 // The exported C face: the public jobs, each answering in four words. No function has a `requires`: any bytes, any lengths.
+#![tactic(auto)]
+
 ghost use Rattle.std.specs.Prelude.{◌≡◌};
 ghost use Rattle.search.specs.Meaning as search_meaning;
 ghost use Rattle.replay.specs.Meaning as replay_meaning;

@@ -4,7 +4,7 @@ use mathlib.Core.Bool.{Bool, true, false, cond}
 use mathlib.Core.List.{List}
 use mathlib.Core.Option.{some}
 use Prim.Native.Nat.{ℕ, zero, suc, ◌+◌, ◌-◌, ◌*◌, ◌/◌, ◌≤◌, ◌<◌}
-use native.Mathlib.Nat.{div_lt_iff_lt_mul, mul_div_le, lt_mul_div_succ}
+use native.Mathlib.Nat.{div-lt_iff_lt-mul, mul-div-le, lt-mul-div-succ}
 use native.Mathlib.Omega.{arith}
 use lib.Dec.{eqb}
 use lib.ListN.{length}
@@ -118,9 +118,9 @@ module _ (bytes : List ℕ) where
       let behind = length bytes - head_size in
       let short : behind < vars_in bytes * size = omega arith in
       values_missing (width_in bytes) (behind / size) (vars_in bytes) head_size
-      ((div_lt_iff_lt_mul positive).1 short)
-      (omega (arith, mul_div_le behind size))
-      (omega (arith, lt_mul_div_succ behind positive))
+      ((div-lt_iff_lt-mul positive).1 short)
+      (omega (arith, mul-div-le behind size))
+      (omega (arith, lt-mul-div-succ behind positive))
 
   pub fields_passed : passed (fields bytes length_size) ≡ then (head_stage bytes) (rest_stage bytes)
   unfolding fields head_stage rest_stage values_stage threads_read threads_of

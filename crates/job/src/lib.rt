@@ -1,4 +1,6 @@
 // The job file: any bytes in, accepted or the refusal's number and offset out; and where the parts of an accepted job stand.
+#![tactic(auto)]
+
 use readers::{
     CAPACITY_AT, HEAD_OUT_OF_RANGE, MODEL_AT, ModelRead, NOT_WHOLE, Next, THREADS_AT, VARIABLES_AT,
     VERSION_AT,
@@ -17,14 +19,14 @@ ghost use Rattle.job.specs.Stages.{rest_stage};
 ghost use Rattle.job.specs.Laid.{HeadGood, AcceptedUnder, IsAccepted};
 
 // Where each thread's n stands, 0 for a thread that the job doesn't have; and the goal's flag, with K and the clauses behind it.
-#[derive(Drop)]
+#[derive(Clone, Copy)]
 pub struct Starts {
     pub threads: [usize; THREADS],
     pub goal: usize,
 }
 
 // An accepted job's version, model, C, T and V, and where its threads and its goal begin.
-#[derive(Drop)]
+#[derive(Clone, Copy)]
 pub struct Layout {
     pub version: u8,
     pub model: Model,
@@ -35,14 +37,14 @@ pub struct Layout {
 }
 
 // A job that is accepted, with its model; or the refusal's number and offset.
-#[derive(Drop)]
+#[derive(Clone, Copy)]
 pub enum Decoded {
     Accepted(Model),
     Refused(u8, usize),
 }
 
 // What stands at a place of a thread: an instruction, or none, where the thread has ended.
-#[derive(Drop)]
+#[derive(Clone, Copy)]
 pub enum PlaceRead {
     Holds(Instr),
     Ended,

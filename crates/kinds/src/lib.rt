@@ -1,4 +1,6 @@
 // What an instruction is to control, to its thread's buffer and to the fence check: a row for each operation.
+#![tactic(auto)]
+
 ghost use Rattle.std.specs.Prelude.{◌≡◌};
 ghost use Rattle.rules.specs.Kinds as rules;
 

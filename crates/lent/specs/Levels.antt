@@ -16,11 +16,13 @@ use Rattle.reach.specs.ListLaws.{at_below, take_one_more}
 use Rattle.reach.specs.Meaning as reach
 use Rattle.reach.specs.Words.{answer_words}
 use Rattle.reach.specs.Rows.{Row, start_row, offers, offers_below, goal_row, known, Met, put, put_all, outcome}
-use Rattle.reach.specs.PutLaws.{put_when_new, put_all_append, put_all_full, put_all_keeps, offers_append, offers_one}
-use Rattle.reach.specs.Levels.{Level, level_zero, level_next}
+use Rattle.reach.specs.PutLaws.{put_when_new, put_all_append, offers_append, offers_one}
+use Rattle.reach.proofs.PutLaws.{put_all_full, put_all_keeps}
+use Rattle.reach.specs.Levels.{Level, level_zero}
+use Rattle.reach.proofs.Levels.{level_next}
 use Rattle.reach.specs.Growth.{add_all}
-use Rattle.reach.specs.Bounded.{put_all_kept}
-use Rattle.reach.specs.Found.{ends_reachable, ends_unreachable, ends_unknown, no_goal_row, goal_row_none}
+use Rattle.reach.proofs.Bounded.{put_all_kept}
+use Rattle.reach.proofs.Found.{ends_reachable, ends_unreachable, ends_unknown, no_goal_row, goal_row_none}
 use Rattle.reach.specs.WalkBack.{walk_back, Walkable, walk_back_way}
 use Rattle.reach.specs.Stored.{links_at, table_length, links_length}
 use Rattle.lent.specs.Meaning.{Lent, IsAnswered}

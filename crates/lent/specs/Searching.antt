@@ -3,7 +3,7 @@ use Rattle.std.specs.Prelude.{◌≡◌, refl, Bool, true, false, List, ◌++◌
 use Rattle.std.proofs.Common.{sym, ◌∙◌, ap, arith, add-one}
 use Rattle.reach.specs.ListLaws.{below_at, at_below}
 use Rattle.reach.specs.Meaning.{no_link}
-use Rattle.reach.specs.PutLaws.{put_all_keeps}
+use Rattle.reach.proofs.PutLaws.{put_all_keeps}
 use Rattle.reach.specs.Stored.{table_length, links_length}
 use Rattle.reach.specs.Found.{states, links}
 use Rattle.reach.specs.Rows.{Met, offers, put_all}

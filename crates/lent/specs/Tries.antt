@@ -10,7 +10,8 @@ use Rattle.std.proofs.Math.ListN.{get_elem?}
 use Rattle.reach.specs.ListLaws.{at_in}
 use Rattle.reach.specs.Meaning.{LeadsTo, link}
 use Rattle.reach.specs.Rows.{Row, offer, offers_below, Met, put_all}
-use Rattle.reach.specs.PutLaws.{step_none, step_some, steps_suc, put_all_keeps}
+use Rattle.reach.specs.PutLaws.{step_none, step_some, steps_suc}
+use Rattle.reach.proofs.PutLaws.{put_all_keeps}
 use Rattle.reach.specs.RunLaws.{snoc_run}
 use Rattle.lent.specs.Coding.{Coding, system, Faithful}
 use Rattle.lent.specs.Parts.{Memory, Put, was_full, Offered, Tried}

@@ -1,4 +1,6 @@
 // The steps of the machine of 01: whether an instruction may be taken, what it does, and what a flush does.
+#![tactic(auto)]
+
 ghost use Rattle.std.specs.Prelude.{◌≡◌, ◌<◌};
 ghost use Rattle.std.proofs.Math.Option.{some};
 ghost use Rattle.rules.specs.Limits.{most_variables, most_pending};

@@ -19,7 +19,6 @@ pub mod Growth
 pub mod Offers
 pub mod Levels
 pub mod PutLaws
-pub mod Bounded
 pub mod Found
 pub mod Unique
 pub mod Promise

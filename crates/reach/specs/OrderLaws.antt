@@ -6,7 +6,7 @@ use Rattle.reach.specs.ListLaws.{append_equal}
 use Rattle.reach.specs.Order.{Earlier, Sooner}
 
 -- of two numbers
-compared : (a b : ℕ) → (a < b) ⊎ ((a ≡ b) ⊎ (b < a))
+pub compared : (a b : ℕ) → (a < b) ⊎ ((a ≡ b) ⊎ (b < a))
 compared a b = first (dec_lt a b)
   where
     second : ¬ (a < b) → Dec (b < a) → (a < b) ⊎ ((a ≡ b) ⊎ (b < a))
@@ -57,19 +57,6 @@ sooner_trans u v w (inl h) (inr k) = inl (omega (arith, k.0))
 sooner_trans u v w (inr h) (inl k) = inl (omega (arith, h.0))
 sooner_trans u v w (inr h) (inr k) = inr (h.0 ∙ k.0, earlier_trans u v w h.1 k.1)
 
-pub sooner_total : (u v : List ℕ) → Sooner u v ⊎ ((u ≡ v) ⊎ Sooner v u)
-sooner_total u v = lengths (compared (length u) (length v))
-  where
-    equal : length u ≡ length v → Earlier u v ⊎ ((u ≡ v) ⊎ Earlier v u) → Sooner u v ⊎ ((u ≡ v) ⊎ Sooner v u)
-    equal e (inl h) = inl (inr (e, h))
-    equal e (inr (inl p)) = inr (inl p)
-    equal e (inr (inr h)) = inr (inr (inr (sym e, h)))
-
-    lengths : (length u < length v) ⊎ ((length u ≡ length v) ⊎ (length v < length u)) → Sooner u v ⊎ ((u ≡ v) ⊎ Sooner v u)
-    lengths (inl h) = inl (inl h)
-    lengths (inr (inl e)) = equal e (earlier_total u v e)
-    lengths (inr (inr h)) = inr (inr (inl h))
-
 -- one step more
 
 pub length_snoc : (u : List ℕ) (s : ℕ) → length (u ++ (s ∷ [])) ≡ suc (length u)
@@ -84,13 +71,6 @@ earlier_snoc (a ∷ u) (b ∷ v) r s (inr h) = inr (h.0, earlier_snoc u v r s h.
 pub sooner_snoc : (u v : List ℕ) (r s : ℕ) → Sooner u v → Sooner (u ++ (r ∷ [])) (v ++ (s ∷ []))
 sooner_snoc u v r s (inl h) = inl (omega (arith, length_snoc u r, length_snoc v s))
 sooner_snoc u v r s (inr h) = inr (omega (arith, h.0, length_snoc u r, length_snoc v s), earlier_snoc u v r s h.1)
-
-earlier_last : (u : List ℕ) (r s : ℕ) → r < s → Earlier (u ++ (r ∷ [])) (u ++ (s ∷ []))
-earlier_last [] r s h = inl h
-earlier_last (a ∷ u) r s h = inr (refl, earlier_last u r s h)
-
-pub sooner_last : (u : List ℕ) (r s : ℕ) → r < s → Sooner (u ++ (r ∷ [])) (u ++ (s ∷ []))
-sooner_last u r s h = inr (omega (arith, length_snoc u r, length_snoc u s), earlier_last u r s h)
 
 pub snoc_equal : (u v : List ℕ) (s t : ℕ) → u ++ (s ∷ []) ≡ v ++ (t ∷ []) → (u ≡ v) × (s ≡ t)
 snoc_equal u v s t e =

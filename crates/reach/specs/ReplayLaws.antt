@@ -115,9 +115,6 @@ module _ (M : Explained) where
       let n : 0 + i ≡ i = omega arith in
       sym (stuck_is 0 i w M.start h.there h.step why h.before h.step_at h.not_enabled ∙ ap (λ m. stuck m why) n)
 
-  pub one_replay : (w : List ℕ) (a b : Replayed M.Reason) → ReplaysTo M w a → ReplaysTo M w b → a ≡ b
-  one_replay w a b h k = replay_is w a h ∙ sym (replay_is w b k)
-
   -- the schedule that search gives replays to "reaches"
   pub schedule_reaches : (N d n : ℕ) (o : Outcome M.State) → IsReachable S N d n o → ReplaysTo M o.schedule reaches
   schedule_reaches N d n o h = let first = h.first.has in (first.goal, first.leads, first.holds)

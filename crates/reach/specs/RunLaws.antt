@@ -1,11 +1,10 @@
 -- Laws of runs, and of the first shortest schedule as the least in the order `Sooner`.
-use Rattle.std.specs.Prelude.{◌≡◌, refl, ◌⊎◌, List, [], ◌∷◌, ◌++◌, ℕ, ◌≤◌, ◌<◌, length}
+use Rattle.std.specs.Prelude.{◌≡◌, refl, List, [], ◌∷◌, ◌++◌, ℕ, ◌≤◌, ◌<◌, length}
 use Rattle.std.proofs.Common.{sym, ◌∙◌, inl, inr, arith}
 use Rattle.std.proofs.Math.Option.{Option, none, some, none-ne-some}
 use Rattle.std.proofs.Math.Decide.{dec_lt, dec_le}
 use Rattle.reach.specs.System.{System, and_then, run}
 use Rattle.reach.specs.Order.{Sooner}
-use Rattle.reach.specs.OrderLaws.{sooner_total}
 use Rattle.reach.specs.Meaning.{LeadsTo, Distance, Reached, FirstShortest}
 use Rattle.reach.specs.Searchable.{Searchable}
 
@@ -67,14 +66,6 @@ module _ (S : System) where
       none_sooner : (v : List ℕ) → LeadsTo S v x → ¬ (Sooner v w)
       none_sooner v k (inl d) = omega (arith, h.shortest.least v k)
       none_sooner v k (inr d) = h.first.none_earlier v k d.0 d.1
-
-  pub least_unique : (x : S.State) (u v : List ℕ) → Least x u → Least x v → u ≡ v
-  least_unique x u v h k = decide (sooner_total u v)
-    where
-      decide : Sooner u v ⊎ ((u ≡ v) ⊎ Sooner v u) → u ≡ v
-      decide (inl d) = absurd (k.none_sooner u h.leads d)
-      decide (inr (inl e)) = e
-      decide (inr (inr d)) = absurd (h.none_sooner v k.leads d)
 
   -- a schedule ends in one state
   pub leads_unique : (w : List ℕ) (x y : S.State) → LeadsTo S w x → LeadsTo S w y → x ≡ y

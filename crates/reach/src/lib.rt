@@ -1,1 +1,2 @@
 // Reachability in any transition system: a theory, with no code. It stands in specs/ and knows nothing of machines.
+#![tactic(auto)]

@@ -1,6 +1,6 @@
 -- A value has one byte or two; and so many bytes for each of several items.
 use Prim.Native.Nat.{ℕ, ◌+◌, ◌*◌, ◌≤◌, ◌<◌}
-use native.Mathlib.Nat.{mul_le_mul_left, mul_le_mul}
+use native.Mathlib.Nat.{mul-le-mul_left, mul-le-mul}
 use native.Mathlib.Omega.{arith}
 use Rattle.rules.specs.Limits.{byte_values, value_size, item_size, word_size}
 use Rattle.rules.specs.declared.Width.{Width}
@@ -17,8 +17,8 @@ size_most Two = omega arith
 -- as many values or items as a byte counts have few bytes
 pub few_bytes : (w : Width) (size k : ℕ) → size ≤ item_size w → k < byte_values → size * k ≤ item_size Two * byte_values
 few_bytes w size k h b =
-    mul_le_mul {n₁ = size} {m₁ = k} {n₂ = item_size Two} {m₂ = byte_values} (omega (arith, size_most w)) (omega arith)
+    mul-le-mul {n₁ = size} {m₁ = k} {n₂ = item_size Two} {m₂ = byte_values} (omega (arith, size_most w)) (omega arith)
 
 -- of n items of one size, each ends before they all do
 pub one_fits : (size i n : ℕ) → i < n → size * i + size ≤ size * n
-one_fits size i n h = let all : size * (i + 1) ≤ size * n = mul_le_mul_left size (omega arith) in omega arith
+one_fits size i n h = let all : size * (i + 1) ≤ size * n = mul-le-mul_left size (omega arith) in omega arith

@@ -1,4 +1,6 @@
 // The readers of the job file, up to the end of its threads, each from an offset: where the next item begins, or the first fault.
+#![tactic(auto)]
+
 ghost use Rattle.std.specs.Prelude.{◌≡◌, ◌+◌, ◌≤◌, ◌<◌, leb, length};
 ghost use Rattle.rules.specs.Limits.{byte_values, width_of, value_size, item_size, longest_file};
 ghost use Rattle.rules.specs.File as file;
@@ -50,7 +52,7 @@ pub const LAST_MODEL: u8 = 2;
 pub const LAST_FLAG: u8 = 1;
 
 // "Instructions are four bytes: op, a, b, c", and so are clauses; in version 3 "op, a, b, then k of two bytes".
-#[derive(Drop)]
+#[derive(Clone, Copy)]
 pub struct Item {
     pub op: u8,
     pub a: u8,
@@ -59,14 +61,14 @@ pub struct Item {
 }
 
 // Reading has come to an offset, or to the first fault: its number and offset.
-#[derive(Drop)]
+#[derive(Clone, Copy)]
 pub enum Next {
     At(usize),
     Fault(u8, usize),
 }
 
 // What a byte is as a model: one that names none is refused, and nothing stands for it.
-#[derive(Drop)]
+#[derive(Clone, Copy)]
 pub enum ModelRead {
     Names(Model),
     NamesNone,

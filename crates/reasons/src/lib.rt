@@ -1,4 +1,6 @@
 // Why a step is withheld: what a rule asks for, whether a step may be taken at all, and the numbers of the reasons.
+#![tactic(auto)]
+
 ghost use Rattle.std.specs.Prelude.{◌≡◌};
 ghost use Rattle.rules.specs.Step as rules;
 ghost use Rattle.rules.specs.Reasons.{number_of};

@@ -2,7 +2,8 @@
 use Rattle.std.specs.Prelude.{◌≡◌, refl, List, [], ◌∷◌, ℕ, get_or}
 use Rattle.std.proofs.Common.{sym, ◌∙◌, ap, subst}
 use Rattle.reach.specs.Replay as reach
-use Rattle.reach.specs.ReplayLaws.{one_replay, schedule_reaches}
+use Rattle.reach.specs.ReplayLaws.{schedule_reaches}
+use Rattle.reach.proofs.ReplayLaws.{one_replay}
 use Rattle.reach.specs.Meaning.{IsReachable, Outcome}
 use Rattle.reach.specs.Words.{refusal_words}
 use Rattle.rules.specs.State.{State}

@@ -1,4 +1,6 @@
 // Replay: 01, "Replay and fence check". Any bytes as a job, and any bytes as a schedule; nothing is written.
+#![tactic(auto)]
+
 ghost use Rattle.rules.specs.File.{job_of};
 ghost use Rattle.job.specs.Laid.{IsAccepted};
 ghost use Rattle.replay.specs.Meaning.{words, ReplayFor, ReplayPromise};
@@ -7,7 +9,7 @@ use job::{Decoded, Layout};
 use rules::{May, Reason};
 
 // What a replay answers: the refusal's number and offset; the goal holds at the end, or not; the first step that may not be taken, and why.
-#[derive(Drop)]
+#[derive(Clone, Copy)]
 pub enum Answer {
     Refused(u8, usize),
     Reaches,

@@ -1,7 +1,8 @@
 // Replays each case on standard input and prints a line for it. A case is the number of steps, four bytes, and the count of the job's bytes,
 // two bytes, and then the job and the steps.
-use cases::Number;
-use libc::STDOUT_FILENO;
+#![tactic(auto)]
+
+use cases::{Number, STDOUT_FILENO};
 use replay::Answer;
 
 // More steps than two bytes can count. A case that asks for more ends the run.

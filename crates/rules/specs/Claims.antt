@@ -11,9 +11,10 @@ use Rattle.reach.specs.ListLaws.{all_nth}
 use Rattle.reach.specs.System.{run}
 use Rattle.reach.specs.Meaning.{LeadsTo, AtMost, Reached, Counts, Answer, reachable, unreachable, unknown, Outcome, Means, MeansAt, Brings, Outnumber}
 use Rattle.reach.specs.Rows.{find}
-use Rattle.reach.specs.Found.{find_means}
-use Rattle.reach.specs.Unique.{one_outcome}
-use Rattle.reach.specs.Promise.{brings, never, unknown_exactly}
+use Rattle.reach.proofs.Found.{find_means}
+use Rattle.reach.proofs.Unique.{one_outcome}
+use Rattle.reach.specs.Promise.{never}
+use Rattle.reach.proofs.Promise.{brings, unknown_exactly}
 use Rattle.reach.specs.Explained.{Stepped, gives, withheld}
 use Rattle.reach.specs.Replay.{Replayed, reaches, falls_short, stuck, ReplaysTo, replay}
 use Rattle.reach.specs.ReplayLaws.{replay_means}

@@ -19,8 +19,9 @@ use Rattle.reach.specs.RunLaws.{none_is_not_some, andThen_some}
 use Rattle.reach.specs.Meaning.{Answer, reachable, unreachable, unknown, Outcome, MeansAt, Outnumber}
 use Rattle.reach.specs.Searchable.{Searchable}
 use Rattle.reach.specs.Rows.{find}
-use Rattle.reach.specs.Found.{find_means}
-use Rattle.reach.specs.Promise.{unknown_exactly, never}
+use Rattle.reach.proofs.Found.{find_means}
+use Rattle.reach.specs.Promise.{never}
+use Rattle.reach.proofs.Promise.{unknown_exactly}
 use Rattle.rules.specs.Kinds.{control_of, role_of}
 use Rattle.rules.specs.Step.{given}
 use Rattle.rules.specs.Tests.{both, of_both, given_some, given_none}

@@ -1,5 +1,6 @@
 // The machine and the job file of 01 as definitions. The types that programs and definitions share are declared here;
 // the rules stand in specs/. The numbers are those of specs/Limits, under the same names, as far as code needs them.
+#![tactic(auto)]
 
 // "T threads (1 to 4), V shared variables (1 to 8), 4 registers a thread"
 pub const MOST_THREADS: u8 = 4;
@@ -84,14 +85,14 @@ pub const SLOT_SIZE: usize = THREADS + REGISTERS_SIZE + MEMORY_SIZE + THREADS * 
 pub const MOST_SLOTS: usize = 65536;
 
 // How many bytes a value has, in a job and in its file: request 10. One byte has 256 values, two have 65,536.
-#[derive(Drop)]
+#[derive(Clone, Copy)]
 pub enum Width {
     One,
     Two,
 }
 
 // The memory models: 01, "Memory rules".
-#[derive(Drop)]
+#[derive(Clone, Copy)]
 pub enum Model {
     Sc,
     Tso,
@@ -99,7 +100,7 @@ pub enum Model {
 }
 
 // What a store carries: a register's value or a constant.
-#[derive(Drop)]
+#[derive(Clone, Copy)]
 pub enum Source {
     Register(u8),
     Constant(u16),
@@ -107,7 +108,7 @@ pub enum Source {
 
 // An instruction, decoded: 01, "The machine", and requests 7 and 10. Operands stand in the order of the job file; a store has what it carries and its
 // variable, an ADD first how wide its sum is.
-#[derive(Drop)]
+#[derive(Clone, Copy)]
 pub enum Instr {
     Set(u8, u16),
     Add(Width, u8, u16),
@@ -122,7 +123,7 @@ pub enum Instr {
 }
 
 // Where an instruction goes on: the next place; to p; to p if register r is k (in the order r, k, p), else the next place.
-#[derive(Drop)]
+#[derive(Clone, Copy)]
 pub enum Control {
     On,
     To(u8),
@@ -130,7 +131,7 @@ pub enum Control {
 }
 
 // What an instruction waits for in its thread's own buffer: nothing; room for one store more; that it is empty.
-#[derive(Drop)]
+#[derive(Clone, Copy)]
 pub enum Wait {
     Never,
     ForRoom,
@@ -138,7 +139,7 @@ pub enum Wait {
 }
 
 // Why a step can't be taken, in the order in which the first that applies is given: request 5.
-#[derive(Drop)]
+#[derive(Clone, Copy)]
 pub enum Reason {
     NoSuchStep,
     ThreadEnded,
@@ -149,14 +150,14 @@ pub enum Reason {
 }
 
 // Whether a step may be taken, and why not.
-#[derive(Drop)]
+#[derive(Clone, Copy)]
 pub enum May {
     Yes,
     No(Reason),
 }
 
 // What an instruction is to the fence check: 01, "Replay and fence check".
-#[derive(Drop)]
+#[derive(Clone, Copy)]
 pub enum Role {
     Stores,
     Loads,
@@ -165,14 +166,14 @@ pub enum Role {
 }
 
 // What a walk of the fence check may pass between its ends: any instruction; any but FENCE, XCHG and CMPX.
-#[derive(Drop)]
+#[derive(Clone, Copy)]
 pub enum Passing {
     Anything,
     NoFence,
 }
 
 // A clause of a goal: thread and place; thread, register and value; variable and value.
-#[derive(Drop)]
+#[derive(Clone, Copy)]
 pub enum Clause {
     PlaceIs(u8, u8),
     RegisterIs(u8, u8, u16),

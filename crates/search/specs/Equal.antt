@@ -2,7 +2,7 @@
 use Rattle.std.specs.Prelude.{◌≡◌, refl, List, ℕ, zero, suc, ◌/◌, ◌≤◌, min, length}
 use Rattle.std.proofs.Common.{sym, ◌∙◌, ap, subst, arith}
 use Rattle.reach.specs.Meaning.{Outcome, Means}
-use Rattle.reach.specs.Unique.{one_outcome}
+use Rattle.reach.proofs.Unique.{one_outcome}
 use Rattle.reach.specs.Words.{answer_words}
 use Rattle.lent.specs.Meaning.{Lent, filled, IsRefused}
 use Rattle.rules.specs.Limits.{slot_size}

@@ -2,7 +2,7 @@
 use Rattle.std.specs.Prelude.{◌≡◌, refl, List, ℕ, zero, suc, ◌/◌, min, length}
 use Rattle.std.proofs.Common.{sym, ◌∙◌, ap, subst}
 use Rattle.reach.specs.Searchable.{Searchable}
-use Rattle.reach.specs.Unique.{one_outcome}
+use Rattle.reach.proofs.Unique.{one_outcome}
 use Rattle.reach.specs.Words.{refusal_words, answer_words}
 use Rattle.lent.specs.Meaning.{Lent, filled, IsRefused, AnsweredWith}
 use Rattle.rules.specs.Limits.{slot_size}

@@ -1,5 +1,7 @@
 // Search: 01, "Search". Any bytes as a job, and three lent buffers of any lengths and contents. One search serves with an index and without: where
 // none is lent, its width is 0 (request 6; `indexed` has the search that is lent one).
+#![tactic(auto)]
+
 pub mod indexed;
 
 ghost use Rattle.std.specs.Prelude.{◌≡◌, ℕ, ◌*◌, ◌≤◌, ◌<◌, length};
@@ -26,7 +28,7 @@ use shelf::Front;
 use state::State;
 
 // What a search answers: the refusal's number and offset; d and R(d); the number of states; N.
-#[derive(Drop)]
+#[derive(Clone, Copy)]
 pub enum Answer {
     Refused(u8, usize),
     Reachable(usize, usize),

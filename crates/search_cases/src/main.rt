@@ -1,11 +1,12 @@
 // Searches each case on standard input in lent memory of its sizes, and prints the answer and a sum over each whole memory afterwards.
 // A case is the numbers of table bytes, links, schedule bytes and index numbers to lend, and the number that the index is filled from,
 // four bytes each; the count of the job's bytes, two bytes; and then the job.
+#![tactic(auto)]
+
 ghost use Rattle.std.specs.Prelude.{◌<◌, ◌≤◌, length};
 ghost use Rattle.search_cases.specs.Room.{Within};
 
-use cases::Number;
-use libc::STDOUT_FILENO;
+use cases::{Number, STDOUT_FILENO};
 use search::Answer;
 
 // All that there is to lend; a case that asks for more ends the run.
@@ -24,7 +25,7 @@ const NO_INDEX: usize = 4294967295;
 const SUM_MODULUS: u64 = 4294967291;
 
 // How much of each memory is lent for a case.
-#[derive(Drop)]
+#[derive(Clone, Copy)]
 struct Sizes {
     table: usize,
     links: usize,
@@ -33,7 +34,7 @@ struct Sizes {
     first: usize,
 }
 
-#[derive(Drop)]
+#[derive(Clone, Copy)]
 enum Head {
     Case(Sizes),
     End,

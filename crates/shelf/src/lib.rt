@@ -1,5 +1,7 @@
 // The lent memory of a search, whatever is searched: a candidate looked up among the slots and put as a slot's bytes, and the schedule written
 // from the links. Where an index is lent, its width is the number of its chains; where none is, it is 0.
+#![tactic(auto)]
+
 ghost use Rattle.std.specs.Prelude.{◌≡◌, false, ◌++◌, ◌+◌, ◌*◌, ◌≤◌, ◌<◌, min, length, drop};
 ghost use Rattle.reach.specs.WalkBack.{walk_back, Walkable};
 ghost use Rattle.lent.specs.Parts.{Looked};
@@ -8,7 +10,7 @@ ghost use Rattle.chains.specs.Chains.{entered};
 ghost use Rattle.shelf.specs.Front.{Ready, OnChain, Fits, PutDone};
 
 // How many slots are counted, and whether a state was met for which none was left.
-#[derive(Drop)]
+#[derive(Clone, Copy)]
 pub struct Front {
     pub count: usize,
     pub full: bool,

@@ -2,7 +2,7 @@
 use mathlib.Core.Path.{◌≡◌, sym, ap, ◌∙◌}
 use mathlib.Core.List.{List, [], ◌∷◌, append-nil}
 use Prim.Native.Nat.{ℕ, suc, ◌+◌, ◌*◌, ◌<◌, ◌≤◌}
-use native.Mathlib.Numerals.{add_one}
+use native.Mathlib.Numerals.{add-one}
 use native.Mathlib.Omega.{arith}
 use lib.ListN.{length, get_or, set, take, length-append}
 use lib.Seq.{take-suc-set}
@@ -34,7 +34,7 @@ pub read_buffer_bytes : (table : List ℕ) (at : ℕ) (slots : List ℕ) → at 
     → slots ≡ bytes_at table (at + 1) entries_size → ReadBuffer table at (record { count = get_or table at 0; slots = slots })
 unfolding buffer_bytes
 read_buffer_bytes table at slots h e =
-    let entries : slots ≡ bytes_at table (suc at) entries_size = e ∙ rw add_one in
+    let entries : slots ≡ bytes_at table (suc at) entries_size = e ∙ rw add-one in
     record {
       bytes = ap (◌∷◌ (get_or table at 0)) entries ∙ sym (one_more table at entries_size (omega arith));
       full = ap length e ∙ bytes_at_number table (at + 1) entries_size (omega arith);

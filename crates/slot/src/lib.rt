@@ -1,4 +1,6 @@
 // A state as the bytes of a slot: laid out in a room of their own, and read from a table that the caller lends.
+#![tactic(auto)]
+
 mod buffers;
 mod layout;
 

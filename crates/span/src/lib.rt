@@ -1,4 +1,6 @@
 // A run of bytes at a place of a table: laid over it, read from it, compared with it.
+#![tactic(auto)]
+
 pub mod pieces;
 
 ghost use Rattle.std.specs.Prelude.{◌≡◌, ◌+◌, ◌≤◌, length};

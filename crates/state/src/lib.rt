@@ -1,4 +1,6 @@
 // A machine state that goes in by value and comes back: each part is read, and each is changed in a state that comes back.
+#![tactic(auto)]
+
 ghost use Rattle.std.specs.Prelude.{◌≡◌, ◌+◌, ◌*◌, ◌<◌};
 ghost use Rattle.rules.specs.Limits.{most_threads, most_variables, registers_each, word_size, registers_size, memory_size};
 ghost use Rattle.rules.specs.State.{place, register, variable, buffer, with_place, with_register, with_variable, with_buffer};
@@ -11,7 +13,7 @@ use buffer::Buf;
 use rules::{MEMORY_SIZE, REGISTERS_EACH, REGISTERS_SIZE, THREADS, WORD_SIZE};
 
 // Four places, sixteen registers thread by thread, eight variables and four buffers travel together as one value: byte for byte as in a slot.
-#[derive(Drop)]
+#[derive(Clone, Copy)]
 pub struct State {
     pub places: [u8; THREADS],
     pub regs: [u8; REGISTERS_SIZE],

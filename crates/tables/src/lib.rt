@@ -1,5 +1,7 @@
 // The tables of 01 and requests 7 and 10: how wide the values of a version are, what the bytes of an item are as an instruction, and what they are as a
 // clause of a goal.
+#![tactic(auto)]
+
 ghost use Rattle.std.specs.Prelude.{◌≡◌, ◌&&◌, ltb, leb};
 ghost use Rattle.rules.specs.Step.{given};
 ghost use Rattle.rules.specs.Limits.{width_of};
@@ -10,14 +12,14 @@ ghost use Rattle.tables.specs.Told.{instr_of, goal_clause_of};
 use rules::{Clause, Instr, REGISTERS_EACH, SECOND_VERSION, Source, THIRD_VERSION, Width};
 
 // What the bytes of an item are: an instruction, or none.
-#[derive(Drop)]
+#[derive(Clone, Copy)]
 pub enum InstrRead {
     Good(Instr),
     Bad,
 }
 
 // What the bytes of an item are: a clause, or none.
-#[derive(Drop)]
+#[derive(Clone, Copy)]
 pub enum ClauseRead {
     Good(Clause),
     Bad,

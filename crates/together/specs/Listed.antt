@@ -11,9 +11,10 @@ use Rattle.reach.specs.Explained.{withheld}
 use Rattle.reach.specs.Replay.{Replayed, stuck, ReplaysTo}
 use Rattle.reach.specs.ReplayLaws.{withheld_stuck}
 use Rattle.reach.specs.Order.{First}
-use Rattle.reach.specs.Promise.{unknown_exactly}
+use Rattle.reach.proofs.Promise.{unknown_exactly}
 use Rattle.reach.specs.System.{System}
-use Rattle.reach.specs.Unique.{counts_unique, first_unique, goal_unique}
+use Rattle.reach.specs.Unique.{counts_unique, goal_unique}
+use Rattle.reach.proofs.Unique.{first_unique}
 use Rattle.rules.specs.Job.{Job}
 use Rattle.rules.specs.File.{Decoded, accepted, refused, decode, job_of}
 use Rattle.rules.specs.Limits.{slot_size}

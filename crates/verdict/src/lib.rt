@@ -1,4 +1,6 @@
 // The verdict: 01, "Bench program". Both jobs are run, and their answers decide which of RELEASE and HOLD is printed.
+#![tactic(auto)]
+
 ghost use Rattle.std.specs.Prelude.{◌≡◌, true, ◌↔◌};
 ghost use Rattle.rules.specs.File.{job_of};
 ghost use Rattle.rules.specs.Fences.{fenced};
@@ -12,7 +14,7 @@ use job::{Decoded, Layout};
 use rules::Model;
 
 // The answers of the search and of the fence check, and whether they allow the release.
-#[derive(Drop)]
+#[derive(Clone, Copy)]
 pub struct Verdict {
     pub search: search::Answer,
     pub fences: fences::Answer,
@@ -20,7 +22,7 @@ pub struct Verdict {
 }
 
 // The verdict's line: so many bytes of the text.
-#[derive(Drop)]
+#[derive(Clone, Copy)]
 pub struct Line {
     pub text: [u8; 8],
     pub count: usize,

@@ -1,4 +1,6 @@
 // A value in two bytes, the higher first: request 10, "values big-endian".
+#![tactic(auto)]
+
 ghost use Rattle.std.specs.Prelude.{◌≡◌, ◌/◌, ◌%◌, ◌<◌};
 ghost use Rattle.rules.specs.Limits.{byte_values};
 ghost use Rattle.words.specs.Words.{word};

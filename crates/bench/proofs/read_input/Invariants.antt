@@ -1,0 +1,9 @@
+-- `bench::read_input` is safe and ends: the count stays within the room. The measure is what is left of the room.
+use Rattle.std.proofs.Common.{◌-◌, ◌≤◌, length}
+use Rattle.bench.proofs.read_input.Given as goal
+
+abbrev pub invariant-loop-count : goal.invariant-loop-count
+invariant-loop-count l = l.count ≤ length l.room
+
+abbrev pub decreases-loop-count : goal.decreases-loop-count
+decreases-loop-count l = length l.room - l.count

@@ -1,0 +1,21 @@
+use borrow.Author.Tests.{eq-eqb, ne_eqb}
+use Rattle.buffer.proofs.ReadLaws.{search_starts, search_finds, search_goes_on, search_ends}
+use Rattle.buffer.proofs.flush.first_to.Goals as goal
+
+pub loop-i-init : goal.loop-i-init
+loop-i-init c = search_starts _ c.requires _
+
+pub returns-then-b-i : goal.returns-then-b-i
+returns-then-b-i c =
+    let l = c.loop-i in
+    search_finds c.args.b c.requires _ l.i c.loop-i-test.true (eq-eqb _ _ c.if-b-i.true) l.invariant
+
+pub loop-i-preserved : goal.loop-i-preserved
+loop-i-preserved c =
+    let l = c.loop-i in
+    search_goes_on c.args.b c.requires _ l.i c.loop-i-test.true (ne_eqb _ _ c.if-b-i.false) l.invariant
+
+pub returns : goal.returns
+returns c =
+    let l = c.loop-i in
+    search_ends c.args.b c.requires _ l.i c.loop-i-test.false l.invariant

@@ -1,0 +1,24 @@
+-- `engine::goal` meets its contract: the flag asks for empty buffers, then the clauses decide.
+use mathlib.Core.Path.{sym, ◌∙◌}
+use Rattle.rules.specs.File.{job_of}
+use Rattle.engine.proofs.GoalLaws.{goal_flag_on, goal_flag_off}
+use Rattle.engine.proofs.goal.Goals as goal
+use Rattle.engine.proofs.goal.Goals.{then-flag+else-not-all_empty, else-flag}
+
+pub returns-then-not-all_empty : goal.returns-then-not-all_empty
+returns-then-not-all_empty c =
+    let flag = c.flag.ensures in
+    sym
+    (goal_flag_on (job_of _) _ (sym flag ∙ c.if-flag.true)
+    (sym c.all_empty.ensures ∙ c.if-not-all_empty.true))
+
+pub returns : goal.returns
+returns c =
+    let flag = c.flag.ensures in
+    c.clauses_hold.ensures
+    ∙ sym
+    (elim c.if-flag.branch [
+      | then-flag+else-not-all_empty w ↦
+          goal_flag_on (job_of _) _ (sym flag ∙ w.if-flag.true) (sym w.all_empty.ensures ∙ w.if-not-all_empty.false)
+      | else-flag w ↦ goal_flag_off (job_of _) _ (sym flag ∙ w.if-flag.false)
+    ])

@@ -1,0 +1,20 @@
+-- `job::threads::behind` meets its contract: n instructions have few bytes.
+use Prim.Native.Nat.{◌*◌, ◌≤◌}
+use native.Mathlib.Omega.{arith}
+use Rattle.rules.specs.Limits.{byte_values, item_size}
+use Rattle.rules.specs.declared.Width.TheVariants.{Two}
+use Rattle.readers.proofs.Widths.{few_bytes}
+use Rattle.job.proofs.threads.behind.Goals as goal
+use Rattle.job.proofs.threads.behind.Goals.{After-wide}
+
+few : (c : After-wide) → c.item_size.result * c.wide.result ≤ item_size Two * byte_values
+few c = few_bytes c.args.w _ _ (omega (arith, c.item_size.ensures)) c.wide.ensures.1
+
+pub overflow_mul-result : goal.overflow_mul-result
+overflow_mul-result c = omega (arith, few c)
+
+pub overflow_add-result-2 : goal.overflow_add-result-2
+overflow_add-result-2 c = omega (arith, few c)
+
+pub returns : goal.returns
+returns c = rw (c.item_size.ensures, c.wide.ensures.0)

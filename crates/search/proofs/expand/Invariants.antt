@@ -1,0 +1,20 @@
+-- `search::expand` meets its contract: the steps below the lowest that is left were tried.
+use mathlib.Core.Path.{◌≡◌}
+use Prim.Native.Nat.{◌-◌}
+use lib.ListN.{length}
+use Rattle.shelf.specs.Front.{memory, Fits}
+use Rattle.rules.specs.Limits.{slot_size}
+use Rattle.rules.specs.File.{job_of}
+use Rattle.state.specs.Held.{held}
+use Rattle.search.specs.Walking.{Walking}
+use Rattle.search.proofs.expand.Given as goal
+
+abbrev pub invariant-loop-tried : goal.invariant-loop-tried
+invariant-loop-tried l = Walking (job_of l.job) l.slots l.q (held l.x) l.tries (memory l.initial.table l.initial.links l.initial.at) (memory l.table l.links l.at) l.left l.tried
+    × Fits slot_size l.slots l.table l.links l.index l.width l.at
+    × (length l.table ≡ length l.initial.table)
+    × (length l.links ≡ length l.initial.links)
+    × (length l.index ≡ length l.initial.index)
+
+abbrev pub decreases-loop-tried : goal.decreases-loop-tried
+decreases-loop-tried l = l.tries - l.tried

@@ -1,0 +1,6 @@
+-- `state::buffer` meets its contract: the buffers that the state holds are those of the value, each held.
+use Rattle.state.proofs.PartLaws.{buffer_read}
+use Rattle.state.proofs.buffer.Goals as goal
+
+pub returns : goal.returns
+returns c = buffer_read _ c.requires.ok _ c.requires.thread

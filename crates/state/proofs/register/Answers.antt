@@ -1,0 +1,7 @@
+-- `state::register` meets its contract: a register is two bytes of the value.
+use Rattle.state.proofs.PartLaws.{register_read}
+use Rattle.state.proofs.register.Goals as goal
+
+pub returns : goal.returns
+returns c =
+    rw (register_read _ c.requires.at.ok _ _, ← c.register_at-at.ensures.0) c.word.ensures
