@@ -1,7 +1,7 @@
 -- Search SC, sign for TSO: the third demand about the answers that the searches give, whatever memory was lent to each, with an index or
 -- without: of any numbers of slots.
-use Rattle.std.specs.Prelude.{◌≡◌, ◌↔◌, true, List, ℕ, ◌≤◌, ◌<◌}
-use Rattle.std.proofs.Common.{sym, ◌∙◌, subst}
+use Rattle.std.specs.Prelude.{◌≡◌, ◌↔◌, true, List, ℕ}
+use Rattle.std.proofs.Common.{sym, subst}
 use Rattle.reach.specs.Meaning.{Reached, NoGoal}
 use Rattle.rules.specs.State.{State}
 use Rattle.rules.specs.Job.{Job}

@@ -1,7 +1,7 @@
 -- Search SC, sign for TSO: the third demand about the answers that the searches give, whatever memory was lent to each, with an index or
 -- without: of any numbers of slots.
-use Rattle.std.specs.Prelude.{◌≡◌, ◌↔◌, List, ℕ, ◌≤◌, ◌<◌}
-use Rattle.std.proofs.Common.{◌∙◌, subst, arith}
+use Rattle.std.specs.Prelude.{◌≡◌, List, ℕ, ◌≤◌, ◌<◌}
+use Rattle.std.proofs.Common.{subst, arith}
 use Rattle.reach.specs.Lists.{All}
 use Rattle.rules.specs.Limits.{byte_values}
 use Rattle.rules.specs.Job.{Job}
