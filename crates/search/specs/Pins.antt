@@ -10,7 +10,8 @@ use Rattle.rules.specs.File.{accepted, refused, decode, job_of}
 use Rattle.rules.specs.Jobs.{p1, p12}
 use Rattle.rules.specs.Claims.{search_reaches, row_accepts, row_refuses}
 use Rattle.rules.specs.Pins.{pins}
-use Rattle.rules.specs.Worked.{table, worked, pinned}
+use Rattle.rules.specs.Worked.{table}
+use Rattle.rules.proofs.Worked.{worked, pinned}
 use Rattle.lent.specs.Meaning.{Lent, slots_lent, AnsweredWith}
 use Rattle.search.specs.Meaning.{words, slots_of, slots_indexed, SearchIn, SearchedIn, IndexedPromise}
 use Rattle.search.specs.declared.Answer.TheVariants.{Refused, Reachable, Unreachable, Unknown}
