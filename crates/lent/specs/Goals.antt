@@ -1,5 +1,5 @@
 -- The first goal among the rows of a level, from the slots.
-use Rattle.std.specs.Prelude.{◌≡◌, refl, ◌⊎◌, Bool, true, false, List, [], ◌∷◌, ◌++◌, ℕ, zero, suc, ◌+◌, ◌-◌, ◌≤◌, ◌<◌, length, take, drop}
+use Rattle.std.specs.Prelude.{◌≡◌, refl, Bool, true, false, List, [], ◌∷◌, ◌++◌, ℕ, zero, suc, ◌+◌, ◌-◌, ◌≤◌, ◌<◌, length, take, drop}
 use Rattle.std.proofs.Common.{sym, ◌∙◌, ap, subst, inl, inr, arith, length-append, take-append-drop, take_all}
 use Rattle.std.proofs.Math.Option.{Option, none, some}
 use Rattle.std.proofs.Math.ListN.{get_elem?}
@@ -7,9 +7,9 @@ use Rattle.reach.specs.Lists.{◌∈◌, All}
 use Rattle.reach.specs.ListLaws.{below_at, at_right}
 use Rattle.reach.specs.System.{System}
 use Rattle.reach.specs.RunLaws.{none_is_not_some}
-use Rattle.reach.specs.Rows.{Row, goal_row, Met}
+use Rattle.reach.specs.Rows.{Row, goal_row}
 use Rattle.reach.specs.PutLaws.{goal_row_at, goal_row_nowhere}
-use Rattle.lent.specs.Coding.{Coding, system, Faithful}
+use Rattle.lent.specs.Coding.{Coding, system}
 use Rattle.lent.specs.Parts.{Memory, FirstGoal}
 use Rattle.lent.specs.Kept.{Kept, row_stands}
 

@@ -1,9 +1,9 @@
 -- What the lent table and links hold while a search goes on: the rows met, in their order, and behind them what stood there.
-use Rattle.std.specs.Prelude.{◌≡◌, refl, ◌⊎◌, Bool, true, false, List, [], ◌∷◌, ◌++◌, map, T}
+use Rattle.std.specs.Prelude.{◌≡◌, refl, ◌⊎◌, Bool, true, false, List, [], ◌∷◌, ◌++◌, T}
 use Rattle.std.proofs.Math.Path.{sym, subst}
 use Rattle.std.proofs.Common.{◌∙◌, ap, inl, inr, mul-zero, arith}
-use Rattle.std.proofs.Math.Option.{Option, none, some}
-use Prim.Native.Nat.{ℕ, zero, suc, ◌+◌, ◌*◌, ◌≤◌, ◌<◌}
+use Rattle.std.proofs.Math.Option.{some}
+use Prim.Native.Nat.{ℕ, suc, ◌*◌, ◌≤◌, ◌<◌}
 use Rattle.std.proofs.Math.Nat.{mul-le-mul_left}
 use borrow.Author.Tests.{le-leb, lt-leb}
 use Rattle.std.proofs.Math.ListN.{length, length-append, length-map, get_elem?}
@@ -16,7 +16,7 @@ use Rattle.reach.specs.Found.{states, links}
 use Rattle.reach.specs.PutLaws.{put_when_full, put_when_known, put_when_none_left, put_when_new}
 use Rattle.reach.specs.Stored.{Table, table_put, table_read, Links, links_put}
 use Rattle.lent.specs.Coding.{Coding, system, Faithful}
-use Rattle.lent.specs.Parts.{Memory, slot_at, InSlots, with_slot, with_one_more, with_none_left, Put, was_full, was_known, none_left, one_more, Stands}
+use Rattle.lent.specs.Parts.{Memory, slot_at, InSlots, with_slot, with_one_more, Put, was_full, was_known, none_left, one_more, Stands}
 
 -- N slots fit in the table and among the links as they were lent
 pub record Lends (size N : ℕ) (t l : List ℕ) : Type 0 where

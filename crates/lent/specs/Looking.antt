@@ -1,5 +1,5 @@
 -- The first goal from a slot on, looked for slot by slot.
-use Rattle.std.specs.Prelude.{◌≡◌, Bool, true, false, List, ℕ, ◌+◌, ◌≤◌, ◌<◌}
+use Rattle.std.specs.Prelude.{◌≡◌, true, false, List, ℕ, ◌+◌, ◌≤◌, ◌<◌}
 use Rattle.std.proofs.Common.{subst, arith}
 use Rattle.std.proofs.Math.Decide.{dec_lt}
 use Rattle.lent.specs.Coding.{Coding, system}

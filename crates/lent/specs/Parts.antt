@@ -1,5 +1,5 @@
 -- What the parts of a search promise of the lent memory: one candidate put, the steps of one state tried, the first goal looked for.
-use Rattle.std.specs.Prelude.{◌≡◌, Bool, true, false, List, ◌++◌, ℕ, zero, suc, ◌+◌, ◌*◌, ◌≤◌, ◌<◌, length, take, drop, set}
+use Rattle.std.specs.Prelude.{◌≡◌, Bool, true, false, List, ◌++◌, ℕ, zero, suc, ◌+◌, ◌*◌, ◌≤◌, ◌<◌, take, drop, set}
 use Rattle.std.proofs.Math.Option.{Option, none, some}
 use Rattle.reach.specs.Meaning.{Reached, link}
 use Rattle.lent.specs.Coding.{Coding, system}

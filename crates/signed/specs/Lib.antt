@@ -1,4 +1,4 @@
--- The third demand of the bench: read Under for the words, Signed for the statement. The rest is its proof.
+-- The third demand of the bench: read Under for the words, `signed` of proofs/Signed for the statement. The rest is its proof.
 pub mod Under
 pub mod Own
 pub mod Roles
@@ -9,4 +9,3 @@ pub mod Calm
 pub mod ScToTso
 pub mod Delayed
 pub mod TsoToSc
-pub mod Signed

@@ -1,18 +1,14 @@
 -- Dead code never runs: under every model each thread stands at a place to which moves lead from its place 0.
-use Rattle.std.specs.Prelude.{◌≡◌, refl, ◌⊎◌, Bool, true, false, cond, List, [], ◌∷◌, ℕ, eqb}
-use Rattle.std.proofs.Math.Path.{subst}
-use Rattle.std.proofs.Common.{inl, inr, arith}
+use Rattle.std.specs.Prelude.{◌≡◌, refl, Bool, true, false, cond, [], ℕ, eqb}
+use Rattle.std.proofs.Common.{inl, arith}
 use Rattle.std.proofs.Math.Option.{some}
 use Rattle.std.proofs.Math.ListN.{get_elem?}
 use Rattle.reach.specs.ListLaws.{at_set, getD_padded}
-use Rattle.reach.specs.System.{run}
-use Rattle.reach.specs.RunLaws.{andThen_some}
 use Rattle.rules.specs.Limits.{most_threads}
 use Rattle.rules.specs.State.{State, place, register, variable, with_place, with_register, with_variable, with_buffer}
 use Rattle.rules.specs.Job.{Job, start}
 use Rattle.rules.specs.Kinds.{control_of}
-use Rattle.rules.specs.Step.{stored, grouped, changed, place_after, executed, flushed, next}
-use Rattle.rules.specs.Machine.{machine}
+use Rattle.rules.specs.Step.{stored, grouped, changed, place_after, executed}
 use Rattle.rules.specs.Fences.{Live}
 use Rattle.rules.specs.FenceCheck.{move_by, live_on}
 use Rattle.rules.specs.Onward.{place_after_onward}
@@ -20,7 +16,7 @@ use Rattle.rules.specs.declared.Model.{Model}
 use Rattle.rules.specs.declared.Model.TheVariants.{Sc, Tso, Pso}
 use Rattle.rules.specs.declared.Instr.{Instr}
 use Rattle.rules.specs.declared.Instr.TheVariants.{Set, Add, Load, Store, Fence, Xchg, Jeq, Jmp, Cmpx, Wfence}
-use Rattle.signed.specs.Steps.{code, Ran, Flushed, next_either}
+use Rattle.signed.specs.Steps.{code}
 
 -- every thread stands at a live place
 abbrev pub AllLive : Job → State → Type 0
@@ -54,24 +50,10 @@ places_kept Tso t Wfence x = refl
 places_kept Pso t Wfence x = refl
 
 module _ (j : Job) where
-  executed_live : (m : Model) (t : ℕ) (i : Instr) (x : State) → get_elem? (code j t) (place t x) ≡ some i → AllLive j x
+  pub executed_live : (m : Model) (t : ℕ) (i : Instr) (x : State) → get_elem? (code j t) (place t x) ≡ some i → AllLive j x
       → AllLive j (executed m t i x)
   unfolding executed with_place place
   executed_live m t i x e live =
       let p = place_after t (control_of i) x in
       let move = move_by (code j t) (place t x) p i e (place_after_onward t (control_of i) x) in
       rw (places_kept m t i x) (at_set (λ u q. Live (code j u) q) x.places t p 0 live (live_on (code j t) (place t x) p (live t) move))
-
-  step_live : (s : ℕ) (x y : State) → next j s x ≡ some y → AllLive j x → AllLive j y
-  unfolding flushed with_variable with_buffer place
-  step_live s x y e live = which (next_either j s x y e)
-    where
-      which : Ran j s x y ⊎ ((t : ℕ) × (v : ℕ) × Flushed j t v x y) → AllLive j y
-      which (inl r) = subst (AllLive j) r.is (executed_live j.model s r.instr x r.stands live)
-      which (inr (t, v, f)) = subst (AllLive j) f.is live
-
-  pub run_live : (w : List ℕ) (x y : State) → run (machine j) w x ≡ some y → AllLive j x → AllLive j y
-  run_live [] x y e live = let f : some x ≡ some y = e in let same : x ≡ y = cc in subst (AllLive j) same live
-  run_live (s ∷ w) x y e live =
-      let r = andThen_some (next j s x) (run (machine j) w) y e in
-      run_live w r.0 y r.2 (step_live s x r.0 r.1 live)

@@ -1,8 +1,8 @@
 -- Each run under TSO of a program that the fence check passes is followed under SC: a store runs at its flush, with the quiet
 -- instructions behind it.
-use Rattle.std.specs.Prelude.{◌≡◌, refl, ◌⊎◌, ◌≢◌, true, ℕ, ◌<◌, get_or, set}
+use Rattle.std.specs.Prelude.{◌≡◌, refl, ◌≢◌, true, ℕ, ◌<◌, get_or, set}
 use Rattle.std.proofs.Math.Path.{sym, ap, ap₂, subst}
-use Rattle.std.proofs.Common.{◌∙◌, subst₂, inl, inr, arith, eqb-true}
+use Rattle.std.proofs.Common.{◌∙◌, subst₂, arith, eqb-true}
 use Rattle.std.proofs.Math.Bool.{false}
 use Rattle.std.proofs.lemmas.Bool.{false≢true}
 use mathlib.Core.List.{List, [], ◌∷◌, ◌++◌}
@@ -10,18 +10,17 @@ use Rattle.std.proofs.Math.Option.{some}
 use Rattle.std.proofs.Math.ListN.{get_elem?, length-set}
 use Rattle.std.proofs.Math.Seq.{get_or-set_same, get_or-set_other}
 use Rattle.reach.specs.System.{run}
-use Rattle.reach.specs.RunLaws.{andThen_some}
 use Rattle.rules.specs.Limits.{most_threads}
 use Rattle.rules.specs.State.{Pending, Buffer, empty_buffer, State, place, buffer, pending, with_variable, with_buffer}
 use Rattle.rules.specs.Job.{Job, width}
-use Rattle.rules.specs.Kinds.{control_of, wait_of, role_of}
-use Rattle.rules.specs.Step.{counted, flushed_buffer, oldest_to, without_oldest_to, is_empty, needs, free, is_pending_to, is_oldest_to, may_flush, carried, stored, changed, place_after, executed, flushed, next}
+use Rattle.rules.specs.Kinds.{control_of, role_of}
+use Rattle.rules.specs.Step.{counted, flushed_buffer, oldest_to, without_oldest_to, needs, is_pending_to, is_oldest_to, may_flush, carried, stored, changed, place_after, executed, flushed}
 use Rattle.rules.specs.Machine.{machine}
-use Rattle.rules.specs.Fences.{Unfenced, Open, fenced, ChecksTo}
+use Rattle.rules.specs.Fences.{Unfenced, Open}
 use Rattle.rules.specs.FenceCheck.{role_there}
 use Rattle.rules.specs.Sound.{JobIn}
 use Rattle.rules.specs.BufferLaws.{counted_level}
-use Rattle.rules.specs.MayLaws.{no_is_not_yes, needs_yes, then_yes}
+use Rattle.rules.specs.MayLaws.{needs_yes, then_yes}
 use Rattle.rules.specs.declared.May.TheVariants.{Yes}
 use Rattle.rules.specs.declared.Reason.TheVariants.{NothingToFlush, NotTheOldest}
 use Rattle.rules.specs.declared.Model.TheVariants.{Sc, Tso}
@@ -31,10 +30,10 @@ use Rattle.rules.specs.declared.Instr.{Instr}
 use Rattle.rules.specs.declared.Instr.TheVariants.{Store}
 use Rattle.signed.specs.Under.{under}
 use Rattle.signed.specs.Own.{OwnPart, own, onwards, carries, goes_on, altered, after, wrote, Sized, Changed, carried_own, changed_onwards, executed_does}
-use Rattle.signed.specs.Roles.{ByRole, is_store, is_load, is_wait, is_quiet, by_role, Quiet, quiet_no_load}
+use Rattle.signed.specs.Roles.{Quiet, quiet_no_load}
 use Rattle.signed.specs.Behind.{made, ahead_level, Waits, Behind, waits_quiet, behind_store, store_role, waits_walk}
-use Rattle.signed.specs.Steps.{code, code_there, Ran, Flushed, instr_in, next_either, run_then}
-use Rattle.signed.specs.Live.{AllLive, run_live}
+use Rattle.signed.specs.Steps.{code, code_there, instr_in}
+use Rattle.signed.specs.Live.{AllLive}
 use Rattle.signed.specs.Calm.{calm_changed, sc_next, sc_does}
 use Rattle.signed.specs.Delayed.{Delayed, delayed_but, CaughtUp, catch_up}
 
@@ -71,7 +70,7 @@ module _ (j : Job) (ok : JobIn j) (t : ℕ) (low : t < most_threads) (x y : Stat
 
   module _ (i : Instr) (at : get_elem? (code j t) (place t y) ≡ some i) where
     -- with nothing pending SC takes the same step
-    both_step : pending t y ≡ [] → Follows j x (executed Sc t i y)
+    pub both_step : pending t y ≡ [] → Follows j x (executed Sc t i y)
     unfolding own
     both_step e =
         let behind : Behind (code j t) (own t x) (own t y) [] = subst (Behind (code j t) (own t x) (own t y)) e (d.threads t) in
@@ -96,7 +95,7 @@ module _ (j : Job) (ok : JobIn j) (t : ℕ) (low : t < most_threads) (x y : Stat
         }
 
     -- with a store pending SC waits
-    quiet_step : Quiet i → (p : Pending) (b : List Pending) → pending t y ≡ p ∷ b → Follows j x (executed Sc t i y)
+    pub quiet_step : Quiet i → (p : Pending) (b : List Pending) → pending t y ≡ p ∷ b → Follows j x (executed Sc t i y)
     unfolding own
     quiet_step q p b e =
         let c = executed_does t low y d.sized _ _ _ i (instr_in j ok t (place t y) i at) (quiet_no_load q) in
@@ -117,7 +116,7 @@ module _ (j : Job) (ok : JobIn j) (t : ℕ) (low : t < most_threads) (x y : Stat
         }
 
     -- a load with a store pending would be an open pair
-    open_pair : AllLive j x → role_of i ≡ Loads → (p : Pending) (b : List Pending) → pending t y ≡ p ∷ b
+    pub open_pair : AllLive j x → role_of i ≡ Loads → (p : Pending) (b : List Pending) → pending t y ≡ p ∷ b
         → Open j.threads t (own t x).place (own t y).place
     unfolding own
     open_pair live load p b e =
@@ -133,7 +132,7 @@ module _ (j : Job) (ok : JobIn j) (t : ℕ) (low : t < most_threads) (x y : Stat
         record { code = code j t; thread_is = code_there j t (place t y) i at; is_open = record { pair = pair; live = live t } }
 
   -- a store joins the pending ones
-  store_step : (a : Source) (v : ℕ) → get_elem? (code j t) (place t y) ≡ some (Store a v) → Follows j x (executed Tso t (Store a v) y)
+  pub store_step : (a : Source) (v : ℕ) → get_elem? (code j t) (place t y) ≡ some (Store a v) → Follows j x (executed Tso t (Store a v) y)
   unfolding own with_buffer place executed changed stored control_of place_after
   store_step a v at =
       let p : Pending = record { group = 0; variable = v; value = carried t y a } in
@@ -162,21 +161,8 @@ module _ (j : Job) (ok : JobIn j) (t : ℕ) (low : t < most_threads) (x y : Stat
             (ap (λ (b : Buffer). b.marked) now);
       }
 
-  module _ (passes : ChecksTo j.threads fenced) (live : AllLive j x) (capacity : ℕ) where
-    -- what the role of the instruction allows: with a store pending a load would be open, and a fence waits
-    step_of : (i : Instr) → ByRole i → get_elem? (code j t) (place t y) ≡ some i → free Tso capacity (wait_of i) (pending t y) ≡ Yes
-        → (b : List Pending) → pending t y ≡ b → Follows j x (executed Tso t i y)
-    unfolding executed free is_empty
-    step_of i (is_store a v) at may b e = store_step a v at
-    step_of i (is_load role alike) at may [] e = rw (alike t y) (both_step i at e)
-    step_of i (is_load role alike) at may (p ∷ b) e = absurd (passes t _ _ (open_pair i at live role p b e))
-    step_of i (is_wait wait alike) at may [] e = rw (alike t y) (both_step i at e)
-    step_of i (is_wait wait alike) at may (p ∷ b) e = absurd (no_is_not_yes (rw (wait, e) at may))
-    step_of i (is_quiet q alike) at may [] e = rw (alike t y) (both_step i at e)
-    step_of i (is_quiet q alike) at may (p ∷ b) e = rw (alike t y) (quiet_step i at q p b e)
-
 -- what a flush under TSO takes: the first store that is pending
-record Took (v : ℕ) (pending : List Pending) : Type 0 where
+pub record Took (v : ℕ) (pending : List Pending) : Type 0 where
   oldest : Pending
   rest : List Pending
   were : pending ≡ oldest ∷ rest
@@ -184,12 +170,12 @@ record Took (v : ℕ) (pending : List Pending) : Type 0 where
   value : oldest_to v pending ≡ oldest.value
   left : without_oldest_to v pending ≡ rest
 
-flush_took : (v : ℕ) (b : List Pending) → is_oldest_to v b ≡ true → Took v b
+pub flush_took : (v : ℕ) (b : List Pending) → is_oldest_to v b ≡ true → Took v b
 unfolding is_oldest_to oldest_to without_oldest_to
 flush_took v [] h = absurd (false≢true h)
 flush_took v (p ∷ b) h = record { oldest = p; rest = b; were = refl; to = eqb-true _ _ h; value = rw h; left = rw h }
 
-oldest_flushed : (v : ℕ) (b : List Pending) → may_flush Tso v b ≡ Yes → is_oldest_to v b ≡ true
+pub oldest_flushed : (v : ℕ) (b : List Pending) → may_flush Tso v b ≡ Yes → is_oldest_to v b ≡ true
 unfolding may_flush
 oldest_flushed v b h = needs_yes _ NotTheOldest (then_yes (needs (is_pending_to v b) NothingToFlush) (needs (is_oldest_to v b) NotTheOldest) h).1
 
@@ -217,7 +203,7 @@ module _ (j : Job) (ok : JobIn j) (t : ℕ) (low : t < most_threads) (x y : Stat
       (subst (Behind (code j t) (own t r.state) (own t y)) (sym (ap (λ (b : Buffer). b.pending) (buffer_same t low rest z sized))) r.behind)
       (ap (λ (b : Buffer). b.marked) (buffer_same t low rest z sized)))
 
-  flush_step : Follows j x (flushed t v y)
+  pub flush_step : Follows j x (flushed t v y)
   unfolding own after wrote altered goes_on control_of onwards
   flush_step =
       let w : Waits (code j t) (own t x) (own t y) f.oldest f.rest = subst (Behind (code j t) (own t x) (own t y)) f.were (d.threads t) in
@@ -229,31 +215,4 @@ module _ (j : Job) (ok : JobIn j) (t : ℕ) (low : t < most_threads) (x y : Stat
         state = r.state;
         leads = rw (sc_next j ok t x i low d.calm w.at_store) r.leads;
         delayed = caught_up_delayed (executed Sc t i x) w c r;
-      }
-
-module _ (j : Job) (ok : JobIn j) (passes : ChecksTo j.threads fenced) (c : ℕ) where
-  follows_step : (s : ℕ) (x y y' : State) → AllLive j x → Delayed j x y → next (under Tso c j) s y ≡ some y' → Follows j x y'
-  follows_step s x y y' live d e = which (next_either (under Tso c j) s y y' e)
-    where
-      which : Ran (under Tso c j) s y y' ⊎ ((t : ℕ) × (v : ℕ) × Flushed (under Tso c j) t v y y') → Follows j x y'
-      which (inl r) =
-          subst (Follows j x) r.is (step_of j ok s r.low x y d passes live c r.instr (by_role r.instr) r.stands r.may (pending s y) refl)
-      which (inr (t, v, f)) = subst (Follows j x) f.is (flush_step j ok t f.low x y d v (flush_took v (pending t y) (oldest_flushed v (pending t y) f.may)))
-
-  -- the SC state keeps to live places, as every run does
-  pub followed : (w : List ℕ) (x y z : State) → AllLive j x → Delayed j x y → run (machine (under Tso c j)) w y ≡ some z → Follows j x z
-  followed [] x y z live d e =
-      let f : some y ≡ some z = e in
-      let same : y ≡ z = cc in
-      record { way = []; state = x; leads = refl; delayed = subst (Delayed j x) same d }
-  followed (s ∷ w) x y z live d e =
-      let r = andThen_some (next (under Tso c j) s y) (run (machine (under Tso c j)) w) z e in
-      let one = follows_step s x y r.0 live d r.1 in
-      let still = run_live (under Sc 0 j) one.way x one.state one.leads live in
-      let rest = followed w one.state r.0 z still one.delayed r.2 in
-      record {
-        way = one.way ++ rest.way;
-        state = rest.state;
-        leads = run_then (machine (under Sc 0 j)) one.way rest.way x one.state rest.state one.leads rest.leads;
-        delayed = rest.delayed;
       }

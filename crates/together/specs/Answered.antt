@@ -6,7 +6,7 @@ use Prim.Native.Nat.{ℕ, zero, suc}
 use Rattle.reach.specs.System.{System}
 use Rattle.reach.specs.Meaning.{Answer, reachable, unreachable, unknown, Outcome, MeansAt, IsReachable, IsUnreachable, Outnumber}
 use Rattle.reach.specs.Words.{answer_words}
-use Rattle.reach.specs.Promise as reach_promise
+use Rattle.reach.proofs.Promise as reach_promise
 use Rattle.rules.specs.State.{State}
 use Rattle.rules.specs.Job.{Job}
 use Rattle.rules.specs.File.{accepted, decode}

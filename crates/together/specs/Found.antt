@@ -1,6 +1,6 @@
 -- "Reachable" brings a schedule that replays to the goal: the first d bytes of the lent schedule, handed to replay as they stand.
-use Rattle.std.specs.Prelude.{◌≡◌, refl, List, ◌++◌, ℕ, length, take, drop}
-use Rattle.std.proofs.Common.{sym, ◌∙◌, ap, subst, take_at}
+use Rattle.std.specs.Prelude.{◌≡◌, List, ℕ, length, take, drop}
+use Rattle.std.proofs.Common.{◌∙◌, ap, subst, take_at}
 use Rattle.reach.specs.Replay.{reaches}
 use Rattle.rules.specs.Job.{Job}
 use Rattle.rules.specs.File.{accepted, decode}

@@ -7,7 +7,7 @@ use Rattle.rules.specs.Machine.{machine}
 use Rattle.rules.proofs.Accepted.{accepted_in}
 use Rattle.rules.specs.declared.Model.TheVariants.{Sc, Tso}
 use Rattle.signed.specs.Under.{under, under_sc}
-use Rattle.signed.specs.Signed.{no_goal_alike}
+use Rattle.signed.proofs.NeverContradict.{no_goal_alike}
 use Rattle.lent.specs.Meaning.{Lent}
 use Rattle.search.specs.Meaning.{slots_of, SearchPromise}
 use Rattle.fences.specs.Meaning.{FencePromise}

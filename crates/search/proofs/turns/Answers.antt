@@ -5,8 +5,10 @@ use native.Mathlib.Omega.{arith}
 use lib.ListN.{length, drop}
 use Rattle.reach.specs.WalkBack.{walk_back}
 use Rattle.lent.specs.Meaning.{Lent}
-use Rattle.lent.specs.Levels.{put_first, goal_walkable, answered_reachable, answered_unreachable, answered_unknown}
-use Rattle.lent.specs.Searching.{Searching, searching_start, searching_level, searching_state}
+use Rattle.lent.specs.Levels.{put_first, goal_walkable}
+use Rattle.lent.proofs.Levels.{answered_reachable, answered_unreachable, answered_unknown}
+use Rattle.lent.specs.Searching.{Searching, searching_level}
+use Rattle.lent.proofs.Searching.{searching_start, searching_state}
 use Rattle.shelf.specs.Front.{memory}
 use Rattle.rules.specs.File.{job_of}
 use Rattle.search.specs.Coded.{coding, faithful}

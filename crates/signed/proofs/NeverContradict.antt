@@ -1,37 +1,18 @@
--- The third demand of the bench: a program that the fence check passes reaches the same states with empty buffers under TSO, at any
--- capacity, as under SC. So no two searches of it contradict each other, if the goal asks for empty buffers.
+-- No two searches of a program that the fence check passes contradict each other, if the goal asks for empty buffers. Each of the three
+-- theorems rests on `signed` by itself, and none on another.
 use Rattle.std.specs.Prelude.{◌≡◌, ◌↔◌, true, not, ◌||◌, ℕ, ◌≤◌, T}
-use Rattle.std.proofs.Common.{subst}
 use Rattle.reach.specs.System.{System}
-use Rattle.reach.specs.Meaning.{Reached, LeastGoal, NoGoal, Outcome, IsReachable, IsUnreachable}
+use Rattle.reach.specs.Meaning.{LeastGoal, NoGoal, Outcome, IsReachable, IsUnreachable}
 use Rattle.rules.specs.State.{State}
-use Rattle.rules.specs.Job.{Job, start}
+use Rattle.rules.specs.Job.{Job}
 use Rattle.rules.specs.Goal.{every, nothing_pending, clause_holds, goal}
 use Rattle.rules.specs.Tests.{both}
 use Rattle.rules.specs.Machine.{machine}
 use Rattle.rules.specs.Fences.{fenced, ChecksTo}
 use Rattle.rules.specs.Sound.{JobIn}
 use Rattle.rules.specs.declared.Model.TheVariants.{Sc, Tso}
-pub use Rattle.signed.specs.Under.{under, AllEmpty, all_empty_test}
-use Rattle.signed.specs.Live.{start_live}
-use Rattle.signed.specs.Calm.{start_calm}
-use Rattle.signed.specs.ScToTso.{sc_to_tso}
-use Rattle.signed.specs.Delayed.{start_delayed, delayed_empty}
-use Rattle.signed.specs.TsoToSc.{followed}
-
--- "For each program it passes, a machine state with every buffer empty can be reached under TSO, at any permitted capacity, exactly when
--- it can be reached under SC from the same start."
-pub signed : (j : Job) → JobIn j → ChecksTo j.threads fenced → (c : ℕ) → 1 ≤ c → (x : State) → AllEmpty x
-    → Reached (machine (under Tso c j)) x ↔ Reached (machine (under Sc 0 j)) x
-unfolding start
-signed j ok passes c room x empty = (
-  λ r.
-      let f = followed j ok passes c r.way (start j) (start j) x (start_live j) (start_delayed j) r.leads in
-      subst (Reached (machine (under Sc 0 j))) (delayed_empty j f.state x f.delayed empty) (record { way = f.way; leads = f.leads }),
-  λ r.
-      let f = sc_to_tso j ok c room r.way (start j) x (start_calm j) r.leads in
-      record { way = f.0; leads = f.1 },
-)
+use Rattle.signed.specs.Under.{under, AllEmpty, all_empty_test}
+use Rattle.signed.proofs.Signed.{signed}
 
 -- a goal that asks for empty buffers has them
 goal_empty : (j : Job) → j.all_empty ≡ true → (x : State) → T (goal j x) → AllEmpty x
@@ -55,8 +36,12 @@ module _ (j : Job) (ok : JobIn j) (passes : ChecksTo j.threads fenced) (flag : j
   -- searches with any numbers of slots: the one doesn't find what the other rules out
   pub never_contradict : (N M d n m : ℕ) (o p : Outcome State)
       → IsReachable (machine (under Tso c j)) N d n o → IsUnreachable (machine (under Sc 0 j)) M m p → ⊥
-  never_contradict N M d n m o p r u = goal_reached (machine (under Tso c j)) d r.least (no_goal_alike.1 u.no_goal)
+  unfolding goal
+  never_contradict N M d n m o p r u =
+      goal_reached (machine (under Tso c j)) d r.least (λ x h q. u.no_goal x h ((signed j ok passes c room x (goal_empty j flag x h)).0 q))
 
   pub never_contradict_back : (N M d n m : ℕ) (o p : Outcome State)
       → IsReachable (machine (under Sc 0 j)) N d n o → IsUnreachable (machine (under Tso c j)) M m p → ⊥
-  never_contradict_back N M d n m o p r u = goal_reached (machine (under Sc 0 j)) d r.least (no_goal_alike.0 u.no_goal)
+  unfolding goal
+  never_contradict_back N M d n m o p r u =
+      goal_reached (machine (under Sc 0 j)) d r.least (λ x h q. u.no_goal x h ((signed j ok passes c room x (goal_empty j flag x h)).1 q))

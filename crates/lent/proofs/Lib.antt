@@ -1,0 +1,4 @@
+-- The laws that rest on other laws.
+pub mod Tries
+pub mod Levels
+pub mod Searching
