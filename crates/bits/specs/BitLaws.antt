@@ -1,6 +1,6 @@
 -- Laws of a set's bits: one number more, the lowest number and the set without it, and the count.
-use Rattle.std.specs.Prelude.{◌≡◌, refl, ◌⊎◌, ◌↔◌, Bool, true, false}
-use Rattle.std.proofs.Common.{sym, ap, ◌∙◌, inl, inr, add-zero, zero-add, one-mul, pow-suc, mul_comm, div-one, eq-or-lt_of_le, pow_pos, shl_exact}
+use Rattle.std.specs.Prelude.{◌≡◌, refl, ◌⊎◌, Bool, true, false}
+use Rattle.std.proofs.Common.{sym, ap, ◌∙◌, inl, inr, add-zero, zero-add, one-mul, pow-suc, mul_comm, div-one, pow_pos, shl_exact}
 use Prim.Native.Nat.{ℕ, zero, suc, ◌+◌, ◌-◌, ◌*◌, ◌/◌, ◌%◌, ◌^◌, ◌≤◌, ◌<◌, max}
 use Rattle.std.proofs.Math.Nat.{div-div-eq-div-mul}
 use native.Mathlib.Omega.{arith}
@@ -8,7 +8,7 @@ use Rattle.std.proofs.Math.Decide.{dec_lt, ℕ_discrete}
 use Rattle.std.specs.Int.Bits.{bit_and, bit_or, and_step, or_step, and_self, or_shifted_r, or_add_and}
 use Rattle.std.proofs.lemmas.Nat.{and_mask, and_le_r}
 use Rattle.std.specs.Int.Count.{ones, ones_step, count_trailing_zeros, under, trailing_of_zero}
-use Rattle.bits.specs.Bits.{width, bit_of, Has, digit, weight, mask_below, Builds, lowest_of, without_lowest_of, count_below, count_of, Behind, Lowest, WithoutLowest, Counted, Put}
+use Rattle.bits.specs.Bits.{width, bit_of, Has, digit, weight, mask_below, Builds, lowest_of, without_lowest_of, count_below, Behind, Lowest, WithoutLowest, Put}
 
 -- Bits.
 
@@ -140,29 +140,6 @@ module _ (on : ℕ → Bool) (f : ℕ → ℕ) (b : Builds on f) where
   pub mask_fits : (n : ℕ) → f n < 2 ^ n
   mask_fits zero = omega (arith, b.start)
   mask_fits (suc s) = rw (b.more s) (added_below (on s) (f s) s (mask_fits s))
-
-  pub mask_at : (n s : ℕ) → s < n → bit_of (f n) s ≡ digit (on s)
-  mask_at zero s h = absurd (omega arith)
-  mask_at (suc n) s h = rw (b.more n) (last (eq-or-lt_of_le (omega arith)) (mask_at n s))
-    where
-      last : (s ≡ n) ⊎ (s < n) → (s < n → bit_of (f n) s ≡ digit (on s)) → bit_of (f n + weight (on n) n) s ≡ digit (on s)
-      last (inl e) rest = rw e (added_at (on n) (f n) n (mask_fits n))
-      last (inr l) rest = added_under (on n) (f n) n s l ∙ rest l
-
-  pub mask_above : (n s : ℕ) → n ≤ s → bit_of (f n) s ≡ 0
-  mask_above n s h = bit_above (f n) n s (mask_fits n) h
-
-  -- the mask has exactly the numbers below n at which the test holds
-  pub mask_has : (n s : ℕ) → Has (f n) s ↔ ((s < n) × (on s ≡ true))
-  mask_has n s = (λ h. below (dec_lt s n) h, λ p. mask_at n s p.0 ∙ ap digit p.1)
-    where
-      holds : (b : Bool) → digit b ≡ 1 → b ≡ true
-      holds true e = refl
-      holds false e = absurd (omega arith)
-
-      below : Dec (s < n) → Has (f n) s → (s < n) × (on s ≡ true)
-      below (yes l) h = (l, holds (on s) (sym (mask_at n s l) ∙ h))
-      below (no l) h = absurd (omega (arith, mask_above n s (omega arith)))
 
 -- The lowest number of a set, over any number of places: what an odd number has, and an even one of its half, is had by all.
 
@@ -302,14 +279,4 @@ module _ (m : ℕ) (h : m < 2 ^ width) where
         kept = without_kept width m h;
         cleared = without_cleared width m h;
         smaller = λ p. omega (arith, pow_pos (lowest_of m));
-      }
-
-  pub count_law : Counted m (count_of m)
-  count_law =
-      record {
-        is = refl;
-        most = count_most m width;
-        empty = λ e. rw e (count_of_zero width);
-        only_empty = count_only_zero width m h;
-        one_less = count_less width m h;
       }

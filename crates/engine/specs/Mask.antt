@@ -5,7 +5,8 @@ use Rattle.std.proofs.Common.{sym, ◌∙◌, arith}
 use Rattle.std.proofs.lemmas.Bool.{false≢true}
 use Rattle.std.proofs.Math.Decide.{dec_lt}
 use Rattle.bits.specs.Bits.{width, bit_of, Has, weight, Builds}
-use Rattle.bits.specs.BitLaws.{bit_most, mask_fits, mask_above, mask_has}
+use Rattle.bits.specs.BitLaws.{bit_most, mask_fits}
+use Rattle.bits.proofs.BitLaws.{mask_above, mask_has}
 use Rattle.rules.specs.Limits.{step_bound}
 use Rattle.rules.specs.State.{State}
 use Rattle.rules.specs.Job.{Job}

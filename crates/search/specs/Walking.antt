@@ -6,7 +6,8 @@ use Rattle.std.proofs.Math.Option.{none, some}
 use Prim.Native.Nat.{ℕ, zero, suc, ◌+◌, ◌^◌, ◌≤◌, ◌<◌}
 use Rattle.std.proofs.Math.Decide.{dec_lt}
 use Rattle.bits.specs.Bits.{width, bit_of, lowest_of, count_of, Lowest, WithoutLowest, Counted}
-use Rattle.bits.specs.BitLaws.{bit_of_zero, count_law}
+use Rattle.bits.specs.BitLaws.{bit_of_zero}
+use Rattle.bits.proofs.BitLaws.{count_law}
 use Rattle.reach.specs.Explained.{forget}
 use Rattle.reach.specs.Meaning.{link}
 use Rattle.reach.specs.RunLaws.{step_below}

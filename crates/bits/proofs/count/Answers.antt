@@ -3,7 +3,8 @@ use mathlib.Core.Path.{sym, subst}
 use Prim.Native.Nat.{◌^◌, ◌<◌}
 use native.Mathlib.Omega.{arith}
 use Rattle.bits.specs.Bits.{width, Counted}
-use Rattle.bits.specs.BitLaws.{count_is_ones, count_law}
+use Rattle.bits.specs.BitLaws.{count_is_ones}
+use Rattle.bits.proofs.BitLaws.{count_law}
 use Rattle.bits.proofs.count.Goals as goal
 
 pub returns : goal.returns

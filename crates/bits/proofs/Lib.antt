@@ -1,0 +1,2 @@
+-- The laws that rest on other laws.
+pub mod BitLaws
