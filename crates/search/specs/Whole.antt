@@ -21,7 +21,7 @@ use Rattle.state.specs.Parts.{Holds}
 use Rattle.state.specs.declared.State.{State}
 use Rattle.slot.specs.Bytes.{state_bytes}
 use Rattle.slot.specs.BytesLaws.{sized, state_bytes_number}
-use Rattle.slot.specs.StateHeld.{state_bytes_held}
+use Rattle.slot.proofs.StateHeld.{state_bytes_held}
 use Rattle.search.specs.Meaning.{slots_of, slots_indexed, SearchIn}
 use Rattle.search.specs.Coded.{coding}
 
