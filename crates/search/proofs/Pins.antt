@@ -1,5 +1,5 @@
 -- Worked values of N, of refusal 7 and of the words: 01, "Search" and "Refusal numbers and their order"; the slot in pieces: request 3.
-use Rattle.std.specs.Prelude.{◌≡◌, refl, [], ◌∷◌, ◌%◌, ◌≤◌, set}
+use Rattle.std.specs.Prelude.{refl, [], ◌∷◌, set}
 use Rattle.rules.specs.Jobs.{p1, p12}
 use Rattle.rules.specs.Claims.{row_refuses}
 use Rattle.rules.specs.Pins.{pins}

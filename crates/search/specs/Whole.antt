@@ -1,9 +1,9 @@
 -- The whole search, from what its parts promise.
-use Rattle.std.specs.Prelude.{◌≡◌, refl, false, List, ℕ, zero, suc, ◌+◌, ◌*◌, ◌/◌, ◌≤◌, ◌<◌, min, length, get_or}
+use Rattle.std.specs.Prelude.{◌≡◌, refl, false, List, ℕ, zero, suc, ◌+◌, ◌/◌, ◌≤◌, ◌<◌, min, length, get_or}
 use Rattle.std.proofs.Common.{sym, ◌∙◌, ap, subst, mul-le-mul_left, arith}
 use Rattle.reach.specs.Words.{refusal_words, answer_words}
 use Rattle.reach.specs.Meaning.{no_link, Answer, reachable, unreachable, unknown}
-use Rattle.lent.specs.Meaning.{Lent, slots_lent, IsRefused, IsAnswered, AnsweredWith}
+use Rattle.lent.specs.Meaning.{Lent, slots_lent, IsAnswered, AnsweredWith}
 use Rattle.lent.specs.Parts.{Memory, with_one_more, Expanded}
 use Rattle.lent.specs.Kept.{Lends}
 use Rattle.lent.specs.Searching.{Searching}
@@ -14,7 +14,7 @@ use Rattle.shelf.specs.declared.Front.{Front}
 use Rattle.rules.specs.Limits.{slot_size, most_slots}
 use Rattle.rules.specs.State as rules
 use Rattle.rules.specs.Job.{Job, start}
-use Rattle.rules.specs.File.{Decoded, accepted, refused, decode, job_of}
+use Rattle.rules.specs.File.{accepted, refused, decode, job_of}
 use Rattle.rules.specs.Slot.{slot_bytes}
 use Rattle.rules.specs.Machine.{machine}
 use Rattle.state.specs.Parts.{Holds}
