@@ -51,7 +51,7 @@ function read_word(    from) {
     return substr(text, from, at - from)
 }
 
-# The next word or sign of Rattle, as `token`: "" at the end, \" for a text, and a clause with its braces as `ensures{}`.
+# The next word or sign of Rattle, as `token`: "" at the end, \" for a text, and a clause with its braces as `ensures{}`, whatever its name.
 function next_token(    c) {
     skip_blank()
     if (at > size) return token = ""
@@ -72,19 +72,41 @@ function next_token(    c) {
 
 # ---- Clauses
 
-# Behind ghost, requires or ensures: a clause in braces, a struct's `ghost name: {..}`, or the names of `ghost use ..;`.
-function read_antt(    from, name) {
+# Behind ghost, requires or ensures: a clause in braces, which may have a star and a name, a `ghost name: {..}` of a function, a
+# struct, a trait or an impl, with its default or its proof behind it, or the names of `ghost use ..;`.
+function read_antt(    from) {
     from = at
     skip_blank()
-    if (token == "ghost") name = read_word()
-    if (name == "use") {
+    if (token != "ghost" && here(1) == "*") { at++; skip_blank() }
+    clause = read_word()
+    if (token == "ghost" && clause == "use") {
         for (from = at; at <= size && here(1) != ";";) at++
         if (substr(text, from, at - from) ~ /"|--|[{]-|\/[\/*]/) fault("a ghost use has a comment or a quote in it")
         return
     }
-    if (name != "") { skip_blank(); if (here(1) == ":") at++; skip_blank() }
-    if (here(1) == "{") { at++; read_clause(); token = token "{}" }
-    else if (at <= size) at = from
+    skip_blank()
+    if (token == "ghost" && clause != "" && here(1) == ":") { at++; skip_blank() }
+    if (here(1) != "{") { if (at <= size) at = from; return }
+    at++
+    read_clause()
+    if (token == "ghost") read_more()
+    token = token "{}"
+}
+
+# Behind a ghost's braces: = {..}, a member's default, and by {..}, a proof.
+function read_more(    from) {
+    for (;;) {
+        from = at
+        skip_blank()
+        if (here(1) == "=") at++
+        else if (here(2) == "by" && substr(text, at + 2, 1) !~ /[A-Za-z0-9_]/) at += 2
+        else break
+        skip_blank()
+        if (here(1) != "{") break
+        at++
+        read_clause()
+    }
+    if (at <= size) at = from
 }
 
 # The words of a clause up to its closing brace, as term[1] to term[terms]; near[i] where no space stands before it,
@@ -122,11 +144,9 @@ function read_clause(    c, depth, from, spaced, n) {
     fault("a clause does not end")
 }
 
-# Is term[i] this name: not a field (x .name, name = x), not the head of a path (name.x)? With _ it is a name only in « ».
+# Is term[i] this name: not a field or a path's end (x.name), not a field's or an argument's label (name = x)?
 function is_name(i, name) {
-    if (term[i] != name || (index(name, "_") && !escaped[i]) || term[i + 1] == "=") return 0
-    if (term[i - 1] == "." && near[i]) return 0
-    return !(term[i + 1] == "." && near[i + 1] && near[i + 2])
+    return term[i] == name && term[i + 1] != "=" && !(term[i - 1] == "." && near[i])
 }
 
 # bound[i]: term[i] stands where names are bound: from λ to its dot, from let to its =, or before : ↦ ←.
@@ -149,35 +169,26 @@ function mark_bound(    i, j, depth) {
     }
 }
 
-# What an ensures speaks of: the result, if what it binds last (λ r., λ ghost r., λ (r : ℕ).) is used behind that;
-# a &mut parameter p, if `p .exit` is there, or ⟦p and more code⟧ .exit. Bound again, a name is hidden from there on.
-function read_ensures(    i, j, p, binders, depth, result, hidden) {
+# What an ensures speaks of: the result, if `result` is used, and a &mut parameter p, if `p.new` is there. Bound again, a name is
+# hidden from there on; a ghost hides a parameter of its name.
+function read_ensures(    j, p, gone, hidden) {
     term[0] = term[terms + 1] = term[terms + 2] = ""
     mark_bound()
-    for (i = 1; term[i] == "λ"; i++)
-        for (i++; i <= terms && (depth || term[i] != "."); i++) {
-            if (!depth && term[i] !~ /^[(){}]$/) { binders++; result = term[i] }
-            if (!depth && term[i] == "(") { binders++; result = term[i + 1] }
-            if (term[i] ~ /^[({]$/) depth++
-            if (term[i] ~ /^[)}]$/) depth--
-        }
-    if (binders != ghosts + 1 || result == "record") result = "_"
     for (j = 1; j <= terms; j++) {
-        if (j >= i && term[j] == result && bound[j]) result = "_"
-        if (j >= i && result != "_" && is_name(j, result)) result_named = 1
+        if (term[j] == "result" && bound[j]) gone = 1
+        if (!gone && is_name(j, "result")) result_named = 1
         for (p = 1; p <= muts; p++) {
-            if (term[j] == mut[p] && bound[j]) hidden = hidden " " p " "
-            if (term[j + 1] == "." && term[j + 2] == "exit" && near[j + 2] && !index(hidden, " " p " "))
-                if (is_name(j, mut[p]) || begins_bracket(term[j], mut[p])) said[p] = 1
+            if (term[j] == mut[p] && (bound[j] || index(ghosts_named, " " mut[p] " "))) hidden = hidden " " p " "
+            if (term[j + 1] == "." && near[j + 1] && term[j + 2] == "new" && near[j + 2] && !index(hidden, " " p " "))
+                if (is_name(j, mut[p])) said[p] = 1
         }
     }
 }
-function begins_bracket(bracket, name) { return bracket ~ ("^⟦[ *&(]*" name "([][ .)]|⟧)") }
 
 # ---- Files
 
 # crates/job/src/parts.rt is job::parts::, and what an inline mod or an impl has is one step further in.
-function read_file(    part, n, i, path, depth, scope, angle) {
+function read_file(    part, n, i, path, depth, scope, angle, square) {
     n = split(file, part, "/")
     path = part[2] "::"
     sub(/\.rt$/, "", part[n])
@@ -192,12 +203,15 @@ function read_file(    part, n, i, path, depth, scope, angle) {
         if (token ~ /^(struct|enum|type)$/) { read_type(); next_token(); continue }
         if (token == "mod") { scope = next_token(); next_token() }
         else if (token == "impl") {
-            angle = 0
-            while (next_token() !~ /^[{;]?$/) {
+            angle = square = 0
+            while (next_token() !~ /^([{]|where|)$/ && (square || token != ";")) {
                 if (token == "<") angle++
                 else if (token == ">") angle--
+                else if (token == "[") square++
+                else if (token == "]") square--
                 else if (!angle && token ~ /^[A-Za-z_]/) scope = token
             }
+            if (token == "where") while (next_token() !~ /^[{]?$/);
         }
         if (token == "{") { outer[++depth] = path; if (scope != "") path = path scope "::" }
         if (token == "}") { if (!depth) return fault("a brace too many is closed"); path = outer[depth--] }
@@ -225,6 +239,14 @@ function read_public(path,    name, result, requires, ensures, depth, parameter,
     while (token ~ /^(const|unsafe|async|extern|")$/) next_token()
     if (token != "fn") return
     name = path next_token()
+    # its type parameters, whose bounds may have brackets of their own
+    if (next_token() == "<") {
+        for (depth = 1; depth > 0;) {
+            if (next_token() == "") return fault(name " does not end")
+            depth += (token == "<") - (token == ">")
+        }
+        next_token()
+    }
     while (token !~ /^[(]?$/) next_token()
     # Parameters: a name, a colon, a type; &mut self has no colon.
     muts = 0
@@ -242,7 +264,8 @@ function read_public(path,    name, result, requires, ensures, depth, parameter,
         }
     }
     # The result's type, then the clauses.
-    ghosts = result_named = requires = ensures = 0
+    ghosts = result_named = requires = ensures = depth = 0
+    ghosts_named = ""
     if (next_token() == "->") {
         next_token()
         while (token != "" && (depth || token !~ /^([{;]|where|.*[{][}])$/)) {
@@ -252,8 +275,10 @@ function read_public(path,    name, result, requires, ensures, depth, parameter,
             next_token()
         }
     }
-    for (; token !~ /^[{;]?$/; next_token()) {
-        if (token == "ghost{}") ghosts++
+    for (; token != "" && (depth || token !~ /^[{;]$/); next_token()) {
+        if (token ~ /^[([]$/) depth++
+        if (token ~ /^[])]$/) depth--
+        if (token == "ghost{}") { ghosts++; ghosts_named = ghosts_named " " clause " " }
         if (token == "requires{}") requires++
         if (token == "ensures{}") { ensures++; read_ensures() }
     }
@@ -261,7 +286,7 @@ function read_public(path,    name, result, requires, ensures, depth, parameter,
     else {
         if (result !~ /^([(][)])?$/ && !result_named) wrong = "\tgives a result that its ensures does not name: say there what the result is"
         for (p = 1; p <= muts; p++) if (!said[p])
-            wrong = wrong "\tcan change " mut[p] ", and its ensures does not say what it leaves there: name " mut[p] " .exit in it"
+            wrong = wrong "\tcan change " mut[p] ", and its ensures does not say what it leaves there: name " mut[p] ".new in it"
     }
     print name " " requires + ghosts wrong
 }

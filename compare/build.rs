@@ -5,7 +5,7 @@ use std::process::{exit, Command};
 use std::{env, fs};
 
 const FOLDER_VARIABLE: &str = "HANDSHAKE_ARCHIVE_DIR";
-const USUAL_FOLDER: &str = "../target/staticlib";
+const USUAL_FOLDER: &str = "../crates/handshake/out";
 const BEFORE_VARIABLE: &str = "HANDSHAKE_BEFORE_DIR";
 
 // Cargo runs this in the package's folder, so relative and absolute paths are both taken from there.
@@ -33,7 +33,7 @@ fn archive_in(folder: &Path, variable: &str) -> PathBuf {
     println!("cargo:rerun-if-changed={}", archive.display());
     if !archive.is_file() {
         stop(&format!(
-            "{} is not there: run `rt staticlib handshake` first (an archive elsewhere: set {variable} to its folder)",
+            "{} is not there: run `rt lib` in crates/handshake first (an archive elsewhere: set {variable} to its folder)",
             archive.display()
         ));
     }

@@ -13,7 +13,7 @@ use Rattle.rules.specs.declared.May.TheVariants.{Yes, No}
 use Rattle.rules.specs.declared.Reason.{Reason}
 use Rattle.rules.specs.Goal.{goal}
 use Rattle.rules.specs.File.{job_of}
-use Rattle.rules.specs.Keeps.{run_well_formed}
+use Rattle.rules.proofs.Keeps.{run_well_formed}
 use Rattle.rules.specs.Machine.{machine}
 use Rattle.job.specs.Laid.{IsAccepted}
 use Rattle.job.specs.declared.Layout.{Layout}

@@ -2,12 +2,10 @@
 use Rattle.std.specs.Prelude.{◌≡◌, refl, Bool, true, List, [], ◌∷◌, ℕ, ◌+◌, ◌≤◌, ◌<◌, length}
 use Rattle.std.proofs.Math.Option.{none, some}
 use borrow.Author.Tests.{le-leb, lt-leb}
-use Rattle.reach.specs.Lists.{All}
-use Rattle.rules.specs.Limits.{most_threads, most_variables, byte_values, first_version, last_version, length_size}
+use Rattle.rules.specs.Limits.{most_threads, most_variables, first_version, last_version, length_size}
 use Rattle.rules.specs.Job.{Job}
 use Rattle.rules.specs.File.{got, Reader, read_on, ◌>>=◌, done, times, judged, byte, item, field, in_range, model_of, capacity_of, register_ok, zero_ok}
-use Rattle.rules.specs.File.{instruction_of, instruction, thread, value, initial_value, flag_of, clause_count_of, fields, length_ok, accepted, refused, decoded, decode}
-use Rattle.rules.specs.Accepted.{accepted_in}
+use Rattle.rules.specs.File.{instruction_of, instruction, thread, value, initial_value, flag_of, clause_count_of, fields, length_ok, refused, decoded, decode}
 use Rattle.rules.specs.Jobs.{p12}
 use Rattle.rules.specs.declared.Width.TheVariants.{One}
 use Rattle.rules.specs.declared.Model.TheVariants.{Tso}
@@ -49,10 +47,6 @@ module _ (bytes : List ℕ) where
       unfolding ◌>>=◌ read_on field item judged decoded in_range
       blank_refused count_there blank =
           rw (goal_judged, le-leb (G + 1) (length bytes) there, is, le-leb (G + 1 + 1) (length bytes) count_there, blank)
-
-  -- a goal of no clause can't be asked: every accepted job has at least one clause
-  pub some_clause : All (λ k. k < byte_values) bytes → (j : Job) → decode bytes ≡ accepted j → 1 ≤ length j.clauses
-  some_clause small j e = (accepted_in bytes small j e).clauses_least
 
 -- P12 is such a file: item by item it is read up to its goal, at 27
 p12_reads :

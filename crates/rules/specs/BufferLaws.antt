@@ -96,7 +96,7 @@ not_before_is p q e = which (ltb p.group q.group) (eqb p.group q.group) (leb p.v
         let h : q.group ≤ p.group = ltb-false _ _ l in
         (h, λ d. absurd (eqb-false _ _ s (sym d)))
 
-before_trans : (p q r : Pending) → StandsBefore p q → StandsBefore q r → StandsBefore p r
+pub before_trans : (p q r : Pending) → StandsBefore p q → StandsBefore q r → StandsBefore p r
 before_trans p q r h k = (
   omega (arith, h.0, k.0),
   λ e.
@@ -104,18 +104,6 @@ before_trans p q r h k = (
       let b = k.1 (omega (arith, h.0, k.0)) in
       omega arith,
 )
-
-pub in_its_place_ordered : (q : Pending) (b : List Pending) → Pairwise StandsBefore b → Pairwise StandsBefore (in_its_place q b)
-unfolding in_its_place
-in_its_place_ordered q [] h = (tt, tt)
-in_its_place_ordered q (p ∷ b) h =
-    of_cond
-    (Pairwise StandsBefore)
-    (stands_before p q)
-    (λ e. (inserted_all (StandsBefore p) (in_its_place_inserted q b) (before_is p q e) h.0, in_its_place_ordered q b h.1))
-    (λ e.
-    let first = not_before_is p q e in
-    ((first, all_imp (StandsBefore p) (StandsBefore q) (λ r k. before_trans q p r first k) b h.0), h))
 
 -- A store joins the newest group or the next, so no gap comes of it.
 
@@ -126,35 +114,11 @@ newest_from g (p ∷ b) h k =
     let l = newest_from p.group b h.1 (all_imp (StandsBefore p) _ (λ q e. e.0) b h.0) in omega (arith, l, k.0)
 
 -- no store is of a later group than the newest
-newest_most : (g : ℕ) (b : List Pending) → Pairwise StandsBefore b → All (λ p. p.group ≤ newest_group g b) b
+pub newest_most : (g : ℕ) (b : List Pending) → Pairwise StandsBefore b → All (λ p. p.group ≤ newest_group g b) b
 unfolding newest_group
 newest_most g [] h = tt
 newest_most g (p ∷ b) h =
     (newest_from p.group b h.1 (all_imp (StandsBefore p) _ (λ q e. e.0) b h.0), newest_most p.group b h.1)
-
-module _ (q : Pending) where
-  -- behind a store of group g
-  joins_behind : (g : ℕ) (b : List Pending) → All (λ p. p.group ≤ q.group) b → q.group ≤ suc (newest_group g b) → NoGap (suc g) b
-      → NoGap (suc g) (in_its_place q b)
-  unfolding in_its_place newest_group
-  joins_behind g [] low high h = (high, tt)
-  joins_behind g (p ∷ b) low high h =
-      of_cond
-      (NoGap (suc g))
-      (stands_before p q)
-      (λ e. (h.0, joins_behind p.group b low.1 high h.1))
-      (λ e. let first = not_before_is p q e in (omega (arith, first.0, h.0), (omega (arith, low.0), h.1)))
-
-  joins_first : (b : List Pending) → All (λ p. p.group ≤ q.group) b → (b ≡ [] → q.group ≡ 0) → q.group ≤ suc (newest_group 0 b) → NoGap 0 b
-      → NoGap 0 (in_its_place q b)
-  unfolding in_its_place newest_group
-  joins_first [] low none high h = (omega (arith, none refl), tt)
-  joins_first (p ∷ b) low none high h =
-      of_cond
-      (NoGap 0)
-      (stands_before p q)
-      (λ e. (h.0, joins_behind p.group b low.1 high h.1))
-      (λ e. let first = not_before_is p q e in (omega (arith, first.0, h.0), (omega (arith, low.0), h.1)))
 
 pub joined_most : (b : Buffer) → (newest_group 0 b.pending ≤ joined_group b) × (joined_group b ≤ suc (newest_group 0 b.pending))
 unfolding joined_group
@@ -163,24 +127,12 @@ joined_most b =
     (λ e. (omega arith, omega arith)) (λ e. (omega arith, omega arith))
 
 -- the first store of a buffer is of group 0
-joined_empty : (b : Buffer) → (b.pending ≡ [] → b.marked ≡ false) → b.pending ≡ [] → joined_group b ≡ 0
+pub joined_empty : (b : Buffer) → (b.pending ≡ [] → b.marked ≡ false) → b.pending ≡ [] → joined_group b ≡ 0
 unfolding joined_group newest_group
 joined_empty b h e = rw (h e, e)
 
 abbrev pub joining : Buffer → (v k : ℕ) → Pending
 joining b v k = record { group = joined_group b; variable = v; value = k }
-
-pub joins_in_order : (b : Buffer) (v k : ℕ) → (b.pending ≡ [] → b.marked ≡ false)
-    → Pairwise StandsBefore b.pending × NoGap 0 b.pending
-    → Pairwise StandsBefore (in_its_place (joining b v k) b.pending) × NoGap 0 (in_its_place (joining b v k) b.pending)
-joins_in_order b v k unmarked h =
-    let q = joining b v k in
-    let most = joined_most b in (
-      in_its_place_ordered q b.pending h.0,
-      joins_first q b.pending
-          (all_imp _ _ (λ p l. omega (arith, most.0, l)) b.pending (newest_most 0 b.pending h.0))
-          (joined_empty b unmarked) most.1 h.1,
-    )
 
 -- Groups counted anew.
 

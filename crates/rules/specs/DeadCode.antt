@@ -1,18 +1,14 @@
 -- Request 4 beside 01 alone: every program that was passed is passed still, and one that was OPEN by dead code alone is FENCED.
 use Rattle.std.specs.Prelude.{◌≡◌, refl, ◌↔◌, List, [], ◌∷◌, ℕ}
-use Rattle.std.proofs.Common.{subst, inl}
+use Rattle.std.proofs.Common.{inl}
 use Rattle.std.proofs.Math.Option.{some}
 use Rattle.std.proofs.Math.ListN.{get_elem?}
-use Rattle.reach.specs.ListLaws.{all_nth}
 use Rattle.rules.specs.Kinds.{control_of, role_of}
 use Rattle.rules.specs.File.{read_on, ◌>>=◌, done, times, judged, byte, item, field, model_of, in_range, capacity_of, register_ok, zero_ok}
 use Rattle.rules.specs.File.{instruction_of, instruction, thread, value, initial_value, flag_of, clause_of, clause, ended, fields, length_ok}
 use Rattle.rules.specs.File.{decoded, decode, held_job, job_of}
 use Rattle.rules.specs.Fences.{onward, onward_at, successors, role_at, Unfenced, Live, fenced, ChecksTo}
 use Rattle.rules.specs.Jobs.{parked_store}
-use Rattle.rules.specs.Claims.{fences_say, case, CaseHolds, Meant, row_accepts}
-use Rattle.rules.specs.Pins.{pins}
-use Rattle.rules.specs.Worked.{pinned}
 use Rattle.rules.specs.declared.Source.TheVariants.{Constant}
 use Rattle.rules.specs.declared.Instr.{Instr}
 use Rattle.rules.specs.declared.Instr.TheVariants.{Load, Store, Fence, Jeq, Jmp}
@@ -35,23 +31,14 @@ dead_code_alone threads = (
 
 -- The worked job: thread 0 of `parked_store`, and the store at place 1 behind its JMP.
 
-parked_code : List Instr
+pub parked_code : List Instr
 parked_code =
     Jmp 5 ∷ Store (Constant 1) 0 ∷ Load 0 1 ∷ Jeq 0 2 1 ∷ Jmp 9 ∷ Store (Constant 1) 0 ∷ Fence ∷ Load 0 1 ∷ Jeq 0 7 1 ∷ Store (Constant 0) 0 ∷ Jmp 5 ∷ []
 
-parked_thread : get_elem? (job_of parked_store).threads 0 ≡ some parked_code
+pub parked_thread : get_elem? (job_of parked_store).threads 0 ≡ some parked_code
 unfolding parked_code parked_store job_of held_job decode read_on ◌>>=◌ done times judged byte item field model_of in_range capacity_of register_ok zero_ok instruction_of instruction thread value initial_value flag_of clause_of clause ended fields length_ok decoded
 parked_thread = refl
 
-parked_pair : Unfenced parked_code 1 2
+pub parked_pair : Unfenced parked_code 1 2
 unfolding parked_code role_at role_of successors onward_at onward control_of
 parked_pair = record { store = refl; load = refl; between = []; walk = inl refl }
-
--- it was OPEN and is FENCED
-pub more_are_passed : (¬ (PassedBefore (job_of parked_store).threads)) × ChecksTo (job_of parked_store).threads fenced
-unfolding pins
-more_are_passed = (
-  λ before. before 0 1 2 parked_code parked_thread parked_pair,
-  subst (Meant 640 (fences_say fenced)) (row_accepts pins pinned 13 640 parked_store (fences_say fenced) refl refl)
-      (all_nth CaseHolds pins pinned 13 (case 640 parked_store (fences_say fenced)) refl),
-)

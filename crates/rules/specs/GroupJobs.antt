@@ -1,5 +1,5 @@
 -- Jobs of version 2, for the rows of request 7, and the slots that they lead to.
-use Rattle.std.specs.Prelude.{List, [], ◌∷◌, ◌++◌, ℕ, ◌+◌, ◌-◌, ◌/◌, ◌%◌, length, replicate}
+use Rattle.std.specs.Prelude.{List, [], ◌∷◌, ◌++◌, ℕ, ◌-◌, ◌/◌, ◌%◌, length, replicate}
 use Rattle.rules.specs.Jobs.{one_after_another}
 
 -- STOREK k to v; CMPX (r, v, k); WFENCE; LOAD v into r

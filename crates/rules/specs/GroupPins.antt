@@ -1,6 +1,6 @@
 -- Rows of request 7, each under what it pins: CMPX, WFENCE and groups, message passing, the fence check, versions. Slots, reasons and most counts were
 -- worked by hand; the counts of message passing also by a checker written apart.
-use Rattle.std.specs.Prelude.{List, [], ◌∷◌, ℕ, set}
+use Rattle.std.specs.Prelude.{List, [], ◌∷◌, set}
 use Rattle.reach.specs.Replay.{stuck}
 use Rattle.rules.specs.Fences.{fenced, open_at}
 use Rattle.rules.specs.Jobs.{p1, p6}

@@ -1,17 +1,12 @@
 -- Under PSO two histories that leave the same groups are the same bytes: which groups are left is said without their numbers and without the order of
 -- issue. (Under TSO the order of issue is the state, and there is one group.)
-use Rattle.std.specs.Prelude.{◌≡◌, refl, Bool, true, false, cond, not, List, [], ◌∷◌, ℕ, zero, suc, ◌+◌, ◌≤◌, eqb, length, get_or}
-use Rattle.std.proofs.Common.{sym, ap, ap₂, subst, ◌∙◌, zero-add, arith, ext_get_or, eq-eqb, ne_eqb}
+use Rattle.std.specs.Prelude.{◌≡◌, refl, Bool, true, false, cond, List, [], ◌∷◌, ℕ, zero, suc, ◌+◌, ◌≤◌, eqb, length}
+use Rattle.std.proofs.Common.{sym, ap, ap₂, subst, ◌∙◌, zero-add, arith, eq-eqb, ne_eqb}
 use Rattle.std.proofs.Math.Decide.{ℕ_discrete}
 use Rattle.reach.specs.Lists.{All, Pairwise}
 use Rattle.reach.specs.ListLaws.{all_imp}
-use Rattle.reach.specs.Meaning.{LeadsTo}
-use Rattle.rules.specs.State.{Pending, empty_buffer, State, buffer, pending}
-use Rattle.rules.specs.Job.{Job}
-use Rattle.rules.specs.Machine.{machine}
-use Rattle.rules.specs.Slot.{slot_bytes}
-use Rattle.rules.specs.Sound.{JobIn, StandsBefore, NoGap, InOrder, WellFormed}
-use Rattle.rules.specs.Keeps.{buffer_in, run_well_formed}
+use Rattle.rules.specs.State.{Pending, State, buffer, pending}
+use Rattle.rules.specs.Sound.{StandsBefore, NoGap, InOrder}
 use Rattle.rules.specs.declared.Model.TheVariants.{Pso}
 
 -- The groups of a buffer, the oldest first, whatever their numbers: group 0 is that of the first store, the others are found in what is left without it.
@@ -239,32 +234,3 @@ pub record SameSituation (x y : State) : Type 0 where
   pub memory : x.memory ≡ y.memory
   pub groups : (t : ℕ) → SameGroups (pending t x) (pending t y)
   pub marks : (t : ℕ) → (buffer t x).marked ≡ (buffer t y).marked
-
--- whichever schedules lead there
-pub same_bytes : (j : Job) → JobIn j → j.model ≡ Pso → (u w : List ℕ) (x y : State) → LeadsTo (machine j) u x → LeadsTo (machine j) w y
-    → SameSituation x y → slot_bytes x ≡ slot_bytes y
-unfolding buffer
-same_bytes j ok pso u w x y leads_x leads_y same = ap slot_bytes one_state
-  where
-    well_x : WellFormed j x
-    well_x = run_well_formed j ok u x leads_x
-
-    well_y : WellFormed j y
-    well_y = run_well_formed j ok w y leads_y
-
-    in_order : (z : State) → WellFormed j z → (t : ℕ) → InOrder Pso (pending t z)
-    in_order z well t = subst (λ m. InOrder m (pending t z)) pso (buffer_in j z well t).order
-
-    each : (t : ℕ) → buffer t x ≡ buffer t y
-    each t =
-        let stores = same_stores (pending t x) (pending t y) (in_order x well_x t) (in_order y well_y t) (same.groups t) in
-        λ i. record { pending = stores i; marked = same.marks t i }
-
-    buffers : x.buffers ≡ y.buffers
-    buffers = ext_get_or empty_buffer x.buffers y.buffers (well_x.buffers_number ∙ sym well_y.buffers_number) (λ t h. at_each t)
-      where
-        at_each : (t : ℕ) → get_or x.buffers t empty_buffer ≡ get_or y.buffers t empty_buffer
-        at_each t = each t
-
-    one_state : x ≡ y
-    one_state = λ i. record { places = same.places i; registers = same.registers i; memory = same.memory i; buffers = buffers i }

@@ -5,22 +5,18 @@ use Rattle.std.proofs.Common.{sym, ◌∙◌, ltb-true, ltb-false, eqb-true}
 use Rattle.std.proofs.Math.Logic.{inl, inr}
 use Rattle.std.proofs.Math.Bool.{true, false}
 use Rattle.std.proofs.lemmas.Bool.{false≢true, eqb-false}
-use Rattle.std.proofs.Math.Option.{Option, none, some, some-injective}
+use Rattle.std.proofs.Math.Option.{some, some-injective}
 use native.Mathlib.Omega.{arith}
 use Rattle.std.proofs.Math.Decide.{dec_lt}
 use Rattle.std.proofs.Math.ListN.{length}
 use Rattle.reach.specs.Lists.{◌∈◌}
-use Rattle.reach.specs.ListLaws.{at_below, below_at}
-use Rattle.reach.specs.RunLaws.{none_is_not_some}
-use Rattle.reach.specs.Explained.{Stepped, gives, withheld, forget}
+use Rattle.reach.specs.ListLaws.{at_below}
 use Rattle.rules.specs.Limits.{most_threads, step_bound}
 use Rattle.rules.specs.State.{Pending, State, place, pending}
 use Rattle.rules.specs.Job.{Job}
 use Rattle.rules.specs.Kinds.{wait_of}
-use Rattle.rules.specs.Step.{is_empty, needs, ◌then◌, has_room, free, may_execute, is_pending_to, is_oldest_to, is_in_oldest_group, may_flush, instruction_at, flush_thread, flush_variable}
-use Rattle.rules.specs.Step.{may_execute_of, may_flush_of, may, after, by_may, step}
-use Rattle.rules.specs.Reasons.{number_of, same_number, Flushes, PendingTo, OldestTo, InOldestGroup, Behind, Stores, Drains, Applies, FirstThatApplies}
-use Rattle.rules.specs.MayLaws.{may_executes, may_flushes, none_from_bound, execute_of_thread, execute_of_no_thread, flush_of_variable, flush_of_no_thread, flush_of_no_variable}
+use Rattle.rules.specs.Step.{is_empty, needs, ◌then◌, has_room, is_pending_to, is_oldest_to, is_in_oldest_group, may_flush, instruction_at}
+use Rattle.rules.specs.Reasons.{number_of, same_number, Flushes, PendingTo, OldestTo, InOldestGroup, Behind, Stores, Drains, Applies}
 use Rattle.rules.specs.Keeps.{instruction_of_thread}
 use Rattle.rules.specs.declared.Model.{Model}
 use Rattle.rules.specs.declared.Model.TheVariants.{Sc, Tso, Pso}
@@ -53,14 +49,14 @@ numbered_to_six NotTheOldest = omega arith
 
 module _ (P : Reason → Type 0) where
   -- of no reason with a number below n does P hold
-  abbrev NoneBelow : ℕ → Type 0
+  abbrev pub NoneBelow : ℕ → Type 0
   NoneBelow n = (other : Reason) → number_of other < n → ¬ (P other)
 
-  none_below_one : NoneBelow 1
+  pub none_below_one : NoneBelow 1
   none_below_one other h = absurd (omega (arith, numbered_from_one other))
 
   -- one more
-  none_below_next : (why : Reason) → NoneBelow (number_of why) → ¬ (P why) → NoneBelow (suc (number_of why))
+  pub none_below_next : (why : Reason) → NoneBelow (number_of why) → ¬ (P why) → NoneBelow (suc (number_of why))
   none_below_next why below not other h p = which (dec_lt (number_of other) (number_of why))
     where
       which : Dec (number_of other < number_of why) → ⊥
@@ -126,18 +122,18 @@ not_in_oldest_group v (p ∷ b) e h = which (eqb p.group 0) (eqb p.variable v) r
     which false d g u e behind (inl same) = eqb-false _ _ g (ap (λ q. q.group) (sym same) ∙ h.3)
     which false d g u e behind (inr m) = behind e (h.0, m, h.2, h.3)
 
-empty_is : (b : List Pending) → is_empty b ≡ true → b ≡ []
+pub empty_is : (b : List Pending) → is_empty b ≡ true → b ≡ []
 unfolding is_empty
 empty_is [] e = refl
 empty_is (p ∷ b) e = absurd (false≢true e)
 
-not_empty : (b : List Pending) → is_empty b ≡ false → ¬ (b ≡ [])
+pub not_empty : (b : List Pending) → is_empty b ≡ false → ¬ (b ≡ [])
 unfolding is_empty
 not_empty [] e h = false≢true (sym e)
 not_empty (p ∷ b) e h = absurd (omega (arith, ap length h))
 
 -- the three waits and the three models are not each other
-wait_number : Wait → ℕ
+unfoldable pub wait_number : Wait → ℕ
 wait_number Never = 0
 wait_number ForRoom = 1
 wait_number UntilEmpty = 2
@@ -147,7 +143,7 @@ store_waits : (i : Instr) → Stores i → wait_of i ≡ ForRoom
 unfolding wait_of
 store_waits i h = ap wait_of h.2
 
-waits_store : (i : Instr) → wait_of i ≡ ForRoom → Stores i
+pub waits_store : (i : Instr) → wait_of i ≡ ForRoom → Stores i
 unfolding wait_of wait_number
 waits_store (Set r k) e = absurd (omega (arith, ap wait_number e))
 waits_store (Add w r k) e = absurd (omega (arith, ap wait_number e))
@@ -161,13 +157,13 @@ waits_store (Cmpx r v k) e = absurd (omega (arith, ap wait_number e))
 waits_store Wfence e = absurd (omega (arith, ap wait_number e))
 
 -- FENCE, XCHG and CMPX wait until the buffer is empty, and no other
-drain_waits : (i : Instr) → Drains i → wait_of i ≡ UntilEmpty
+pub drain_waits : (i : Instr) → Drains i → wait_of i ≡ UntilEmpty
 unfolding wait_of
 drain_waits i (inl e) = ap wait_of e
 drain_waits i (inr (inl (r, v, e))) = ap wait_of e
 drain_waits i (inr (inr (r, v, k, e))) = ap wait_of e
 
-waits_drain : (i : Instr) → wait_of i ≡ UntilEmpty → Drains i
+pub waits_drain : (i : Instr) → wait_of i ≡ UntilEmpty → Drains i
 unfolding wait_of wait_number
 waits_drain (Set r k) e = absurd (omega (arith, ap wait_number e))
 waits_drain (Add w r k) e = absurd (omega (arith, ap wait_number e))
@@ -186,24 +182,24 @@ model_number Tso = 1
 model_number Pso = 2
 
 -- a buffer with room has fewer than C stores, unless the model is SC
-with_room : (m : Model) (c : ℕ) (b : List Pending) → has_room m c b ≡ true → ¬ (m ≡ Sc) → length b < c
+pub with_room : (m : Model) (c : ℕ) (b : List Pending) → has_room m c b ≡ true → ¬ (m ≡ Sc) → length b < c
 unfolding has_room
 with_room Sc c b e n = absurd (n refl)
 with_room Tso c b e n = ltb-true _ _ e
 with_room Pso c b e n = ltb-true _ _ e
 
-without_room : (m : Model) (c : ℕ) (b : List Pending) → has_room m c b ≡ false → (¬ (m ≡ Sc)) × (c ≤ length b)
+pub without_room : (m : Model) (c : ℕ) (b : List Pending) → has_room m c b ≡ false → (¬ (m ≡ Sc)) × (c ≤ length b)
 unfolding has_room model_number
 without_room Sc c b e = absurd (false≢true (sym e))
 without_room Tso c b e = (λ d. omega (arith, ap model_number d), ltb-false _ _ e)
 without_room Pso c b e = (λ d. omega (arith, ap model_number d), ltb-false _ _ e)
 
 -- A rule's verdict is right: it lets a step pass where no reason holds, and gives the first that does.
-abbrev Judged : (Reason → Type 0) → May → Type 0
+abbrev pub Judged : (Reason → Type 0) → May → Type 0
 Judged P Yes = (why : Reason) → ¬ (P why)
 Judged P (No why) = P why × NoneBelow P (number_of why)
 
-judged_alike : (P Q : Reason → Type 0) → ((why : Reason) → P why → Q why) → ((why : Reason) → Q why → P why) → (m : May) → Judged P m → Judged Q m
+pub judged_alike : (P Q : Reason → Type 0) → ((why : Reason) → P why → Q why) → ((why : Reason) → Q why → P why) → (m : May) → Judged P m → Judged Q m
 judged_alike P Q to from Yes h = λ why q. h why (from why q)
 judged_alike P Q to from (No why) h = (to why h.0, λ other l q. h.1 other l (from other q))
 
@@ -212,7 +208,7 @@ none_at_all P h why = h why (numbered_to_six why)
 
 module _ (j : Job) (x : State) where
   -- what each reason comes to, for the execute step of thread t
-  abbrev Executing : (t : ℕ) → Reason → Type 0
+  abbrev pub Executing : (t : ℕ) → Reason → Type 0
   Executing t NoSuchStep = length j.threads ≤ t
   Executing t ThreadEnded = length (get_or j.threads t []) ≤ place t x
   Executing t BufferFull =
@@ -222,7 +218,7 @@ module _ (j : Job) (x : State) where
   Executing t NotTheOldest = ⊥
 
   -- for the flush of thread t's store to v
-  abbrev Flushing : (t v : ℕ) → Reason → Type 0
+  abbrev pub Flushing : (t v : ℕ) → Reason → Type 0
   Flushing t v NoSuchStep = (length j.threads ≤ t) ⊎ (length j.initial ≤ v)
   Flushing t v ThreadEnded = ⊥
   Flushing t v BufferFull = ⊥
@@ -231,7 +227,7 @@ module _ (j : Job) (x : State) where
   Flushing t v NotTheOldest = PendingTo v (pending t x) × Behind j.model v (pending t x)
 
   -- and for a number above 35
-  abbrev Beyond : Reason → Type 0
+  abbrev pub Beyond : Reason → Type 0
   Beyond NoSuchStep = Unit {0}
   Beyond ThreadEnded = ⊥
   Beyond BufferFull = ⊥
@@ -239,76 +235,27 @@ module _ (j : Job) (x : State) where
   Beyond NothingToFlush = ⊥
   Beyond NotTheOldest = ⊥
 
-  none_executing : (t : ℕ) → NoneBelow (Executing t) 5 → (why : Reason) → ¬ (Executing t why)
+  pub none_executing : (t : ℕ) → NoneBelow (Executing t) 5 → (why : Reason) → ¬ (Executing t why)
   none_executing t h =
       none_at_all (Executing t) (none_below_next (Executing t) NotTheOldest (none_below_next (Executing t) NothingToFlush h (λ h. h)) (λ h. h))
 
   -- thread t stands at the instruction i
   module _ (t : ℕ) (there : t < length j.threads) (i : Instr) (at : instruction_at j t (place t x) ≡ some i) where
-    not_ended : NoneBelow (Executing t) 3
+    pub not_ended : NoneBelow (Executing t) 3
     not_ended =
         let inside : place t x < length (get_or j.threads t []) = at_below (get_or j.threads t []) (place t x) i (sym (instruction_of_thread j t (place t x)) ∙ at) in
         none_below_next (Executing t) ThreadEnded
         (none_below_next (Executing t) NoSuchStep (none_below_one (Executing t)) (λ beyond. omega arith)) (λ ended. omega arith)
 
     -- it has one wait
-    same_wait : (w u : Wait) → wait_of i ≡ w → (k : Instr) → instruction_at j t (place t x) ≡ some k → wait_of k ≡ u → wait_number w ≡ wait_number u
+    pub same_wait : (w u : Wait) → wait_of i ≡ w → (k : Instr) → instruction_at j t (place t x) ≡ some k → wait_of k ≡ u → wait_number w ≡ wait_number u
     same_wait w u e k stands f =
         let same : i ≡ k = some-injective _ _ (sym at ∙ stands) in
         ap wait_number (sym e ∙ ap wait_of same ∙ f)
 
-    no_store : (w : Wait) → wait_of i ≡ w → ¬ (wait_number w ≡ 1) → ¬ (Executing t BufferFull)
+    pub no_store : (w : Wait) → wait_of i ≡ w → ¬ (wait_number w ≡ 1) → ¬ (Executing t BufferFull)
     unfolding wait_number
     no_store w e n h = n (same_wait w ForRoom e h.0 h.1 (store_waits h.0 h.2))
-
-    no_drain : (w : Wait) → wait_of i ≡ w → ¬ (wait_number w ≡ 2) → ¬ (Executing t BufferNotEmpty)
-    unfolding wait_number
-    no_drain w e n h = n (same_wait w UntilEmpty e h.0 h.1 (drain_waits h.0 h.2))
-
-    judged_wait : (w : Wait) → wait_of i ≡ w → Judged (Executing t) (free j.model j.capacity w (pending t x))
-    unfolding free wait_number
-    judged_wait Never e =
-        none_executing t
-        (none_below_next (Executing t) BufferNotEmpty
-        (none_below_next (Executing t) BufferFull not_ended (no_store Never e (λ d. omega arith)))
-        (no_drain Never e (λ d. omega arith)))
-    judged_wait ForRoom e = which (has_room j.model j.capacity (pending t x)) refl
-      where
-        which : (b : Bool) → has_room j.model j.capacity (pending t x) ≡ b → Judged (Executing t) (needs b BufferFull)
-        which true room =
-            none_executing t
-            (none_below_next (Executing t) BufferNotEmpty
-            (none_below_next (Executing t) BufferFull not_ended (λ h. omega (arith, with_room _ _ _ room h.3, h.4)))
-            (no_drain ForRoom e (λ d. omega arith)))
-        which false full = let h = without_room j.model j.capacity (pending t x) full in ((i, at, waits_store i e, h.0, h.1), not_ended)
-    judged_wait UntilEmpty e = which (is_empty (pending t x)) refl
-      where
-        not_full : NoneBelow (Executing t) 4
-        not_full = none_below_next (Executing t) BufferFull not_ended (no_store UntilEmpty e (λ d. omega arith))
-
-        which : (b : Bool) → is_empty (pending t x) ≡ b → Judged (Executing t) (needs b BufferNotEmpty)
-        which true empty = none_executing t (none_below_next (Executing t) BufferNotEmpty not_full (λ h. h.3 (empty_is (pending t x) empty)))
-        which false some_pending = ((i, at, waits_drain i e, not_empty (pending t x) some_pending), not_full)
-
-  judged_execute : (t : ℕ) → Judged (Executing t) (may_execute_of j t x)
-  unfolding may_execute
-  judged_execute t = which (dec_lt t (length j.threads))
-    where
-      by_place : t < length j.threads → (o : Option Instr) → instruction_at j t (place t x) ≡ o → Judged (Executing t) (may_execute j.model j.capacity o (pending t x))
-      by_place there none e = (ended (dec_lt (place t x) (length (get_or j.threads t []))), none_below_next (Executing t) NoSuchStep (none_below_one (Executing t)) (λ beyond. omega arith))
-        where
-          ended : Dec (place t x < length (get_or j.threads t [])) → length (get_or j.threads t []) ≤ place t x
-          ended (no n) = omega arith
-          ended (yes l) =
-              let k = below_at (get_or j.threads t []) (place t x) l in
-              absurd (none_is_not_some (sym e ∙ instruction_of_thread j t (place t x) ∙ k.1))
-      by_place there (some i) e = judged_wait t there i e (wait_of i) refl
-
-      which : Dec (t < length j.threads) → Judged (Executing t) (may_execute_of j t x)
-      which (yes l) = subst (Judged (Executing t)) (sym (execute_of_thread j x t l)) (by_place l (instruction_at j t (place t x)) refl)
-      which (no n) =
-          let beyond : length j.threads ≤ t = omega arith in
-          subst (Judged (Executing t)) (sym (execute_of_no_thread j x t beyond)) (beyond, none_below_one (Executing t))
 
   module _ (t v : ℕ) where
     -- with a store to v pending there is something to flush, but under SC
@@ -331,7 +278,7 @@ module _ (j : Job) (x : State) where
         which true true p o = none_at_all (Flushing t v) (none_below_next (Flushing t v) NotTheOldest (some_pending p) (λ h. not_behind o h.1))
         which true false p o = ((pending_to v (pending t x) p, is_behind o), some_pending p)
 
-    judged_model : NoneBelow (Flushing t v) 5 → (m : Model) → j.model ≡ m → Judged (Flushing t v) (may_flush m v (pending t x))
+    pub judged_model : NoneBelow (Flushing t v) 5 → (m : Model) → j.model ≡ m → Judged (Flushing t v) (may_flush m v (pending t x))
     unfolding may_flush model_number
     judged_model low Sc e = (inl e, low)
     judged_model low Tso e =
@@ -347,32 +294,10 @@ module _ (j : Job) (x : State) where
         not_behind o (inl h) = omega (arith, ap model_number (sym e ∙ h.0))
         not_behind o (inr h) = h.1 (in_oldest_group v (pending t x) o)
 
-    judged_flush : Judged (Flushing t v) (may_flush_of j t v x)
-    judged_flush = which (dec_lt t (length j.threads)) (dec_lt v (length j.initial))
-      where
-        there : t < length j.threads → v < length j.initial → ¬ ((length j.threads ≤ t) ⊎ (length j.initial ≤ v))
-        there l k (inl beyond) = omega arith
-        there l k (inr beyond) = omega arith
-
-        which : Dec (t < length j.threads) → Dec (v < length j.initial) → Judged (Flushing t v) (may_flush_of j t v x)
-        which (yes l) (yes k) =
-            let low : NoneBelow (Flushing t v) 5 =
-            none_below_next (Flushing t v) BufferNotEmpty
-            (none_below_next (Flushing t v) BufferFull
-            (none_below_next (Flushing t v) ThreadEnded
-            (none_below_next (Flushing t v) NoSuchStep (none_below_one (Flushing t v)) (there l k)) (λ h. h)) (λ h. h)) (λ h. h) in
-            subst (Judged (Flushing t v)) (sym (flush_of_variable j x t v l k)) (judged_model low j.model refl)
-        which (no n) k =
-            let beyond : length j.threads ≤ t = omega arith in
-            subst (Judged (Flushing t v)) (sym (flush_of_no_thread j x t v beyond)) (inl beyond, none_below_one (Flushing t v))
-        which (yes l) (no n) =
-            let beyond : length j.initial ≤ v = omega arith in
-            subst (Judged (Flushing t v)) (sym (flush_of_no_variable j x t v beyond)) (inr beyond, none_below_one (Flushing t v))
-
   -- What is said of every number comes to that: a number is that of one step.
 
   module _ (t : ℕ) (low : t < most_threads) where
-    executing_applies : (why : Reason) → Executing t why → Applies j t x why
+    pub executing_applies : (why : Reason) → Executing t why → Applies j t x why
     executing_applies NoSuchStep h = inr (inl (t, (low, refl), h))
     executing_applies ThreadEnded h = (t, (low, refl), h)
     executing_applies BufferFull h = (t, ((low, refl), h.0, h.1, h.2), h.3, h.4)
@@ -380,7 +305,7 @@ module _ (j : Job) (x : State) where
     executing_applies NothingToFlush h = absurd h
     executing_applies NotTheOldest h = absurd h
 
-    applies_executing : (why : Reason) → Applies j t x why → Executing t why
+    pub applies_executing : (why : Reason) → Applies j t x why → Executing t why
     applies_executing NoSuchStep (inl h) = absurd (omega arith)
     applies_executing NoSuchStep (inr (inl (u, e, h))) = rw e.1 h
     applies_executing NoSuchStep (inr (inr (u, v, f, h))) = absurd (omega (arith, f.2))
@@ -394,7 +319,7 @@ module _ (j : Job) (x : State) where
     same_thread : (u w : ℕ) → Flushes s u w → (u ≡ t) × (w ≡ v)
     same_thread u w f = (omega (arith, is.0, is.1, is.2, f.0, f.1, f.2), omega (arith, is.0, is.1, is.2, f.0, f.1, f.2))
 
-    flushing_applies : (why : Reason) → Flushing t v why → Applies j s x why
+    pub flushing_applies : (why : Reason) → Flushing t v why → Applies j s x why
     flushing_applies NoSuchStep h = inr (inr (t, v, is, h))
     flushing_applies ThreadEnded h = absurd h
     flushing_applies BufferFull h = absurd h
@@ -402,7 +327,7 @@ module _ (j : Job) (x : State) where
     flushing_applies NothingToFlush h = (t, v, is, h)
     flushing_applies NotTheOldest h = (t, v, is, h.0, h.1)
 
-    applies_flushing : (why : Reason) → Applies j s x why → Flushing t v why
+    pub applies_flushing : (why : Reason) → Applies j s x why → Flushing t v why
     applies_flushing NoSuchStep (inl h) = absurd (omega (arith, is.0, is.1, is.2))
     applies_flushing NoSuchStep (inr (inl (u, e, h))) = absurd (omega (arith, is.2, e.0, e.1))
     applies_flushing NoSuchStep (inr (inr (u, w, f, h))) = let d = same_thread u w f in rw (← d.0, ← d.1) h
@@ -413,7 +338,7 @@ module _ (j : Job) (x : State) where
     applies_flushing NotTheOldest (u, w, f, p, o) = let d = same_thread u w f in rw (← d.0, ← d.1) (p, o)
 
   module _ (s : ℕ) (high : step_bound ≤ s) where
-    beyond_applies : (why : Reason) → Beyond why → Applies j s x why
+    pub beyond_applies : (why : Reason) → Beyond why → Applies j s x why
     beyond_applies NoSuchStep h = inl high
     beyond_applies ThreadEnded h = absurd h
     beyond_applies BufferFull h = absurd h
@@ -421,78 +346,10 @@ module _ (j : Job) (x : State) where
     beyond_applies NothingToFlush h = absurd h
     beyond_applies NotTheOldest h = absurd h
 
-    applies_beyond : (why : Reason) → Applies j s x why → Beyond why
+    pub applies_beyond : (why : Reason) → Applies j s x why → Beyond why
     applies_beyond NoSuchStep h = tt
     applies_beyond ThreadEnded (u, e, h) = absurd (omega (arith, e.0, e.1))
     applies_beyond BufferFull (u, (e, i, at, w), m, h) = absurd (omega (arith, e.0, e.1))
     applies_beyond BufferNotEmpty (u, (e, i, at, w), h) = absurd (omega (arith, e.0, e.1))
     applies_beyond NothingToFlush (u, v, f, h) = absurd (omega (arith, f.0, f.1, f.2))
     applies_beyond NotTheOldest (u, v, f, p, o) = absurd (omega (arith, f.0, f.1, f.2))
-
-  may_judged : (s : ℕ) → Judged (Applies j s x) (may j s x)
-  unfolding flush_thread flush_variable
-  may_judged s = which (dec_lt s most_threads) (dec_lt s step_bound)
-    where
-      which : Dec (s < most_threads) → Dec (s < step_bound) → Judged (Applies j s x) (may j s x)
-      which (yes low) d =
-          judged_alike (Executing s) (Applies j s x) (executing_applies s low) (applies_executing s low) (may j s x)
-          (subst (Judged (Executing s)) (sym (may_executes j x s low)) (judged_execute s))
-      which (no n) (yes high) =
-          let t = flush_thread s in
-          let v = flush_variable s in
-          let from : most_threads ≤ s = omega arith in
-          let is : Flushes s t v = (omega arith, omega arith, omega arith) in
-          judged_alike (Flushing t v) (Applies j s x) (flushing_applies s t v is) (applies_flushing s t v is) (may j s x)
-          (subst (Judged (Flushing t v)) (sym (may_flushes j x s from high)) (judged_flush t v))
-      which (no n) (no high) =
-          let beyond : step_bound ≤ s = omega arith in
-          judged_alike Beyond (Applies j s x) (beyond_applies s beyond) (applies_beyond s beyond) (may j s x)
-          (subst (Judged Beyond) (sym (none_from_bound j x s beyond)) (tt, none_below_one Beyond))
-
-  module _ (s : ℕ) where
-    judged_step : (m : May) → may j s x ≡ m → Judged (Applies j s x) m
-    judged_step m e = subst (Judged (Applies j s x)) e (may_judged s)
-
-    -- a step that is withheld: its reason applies, and no earlier one does
-    pub withheld_first : (why : Reason) → step j s x ≡ withheld why → FirstThatApplies j s x why
-    unfolding step
-    withheld_first why e = which (may j s x) refl e
-      where
-        which : (m : May) → may j s x ≡ m → by_may m (after j s x) ≡ withheld why → FirstThatApplies j s x why
-        which Yes is d = absurd (none_is_not_some (sym (ap forget d)))
-        which (No because) is d =
-            let same : because ≡ why = cc in
-            let h = subst (λ m. Judged (Applies j s x) (No m)) same (judged_step (No because) is) in
-            record { applies = h.0; none_earlier = h.1 }
-
-    -- a step that is given: no reason applies
-    pub given_none_applies : (y : State) → step j s x ≡ gives y → (why : Reason) → ¬ (Applies j s x why)
-    unfolding step
-    given_none_applies y e = which (may j s x) refl e
-      where
-        which : (m : May) → may j s x ≡ m → by_may m (after j s x) ≡ gives y → (why : Reason) → ¬ (Applies j s x why)
-        which Yes is d = judged_step Yes is
-        which (No because) is d = absurd (none_is_not_some (ap forget d))
-
-    -- and the other way: where a reason is the first that applies, the step is withheld for it
-    pub first_withheld : (why : Reason) → FirstThatApplies j s x why → step j s x ≡ withheld why
-    first_withheld why h = which (step j s x) refl
-      where
-        same : (because : Reason) → FirstThatApplies j s x because → because ≡ why
-        same because k =
-            let up : ¬ (number_of because < number_of why) = λ l. h.none_earlier because l k.applies in
-            let down : ¬ (number_of why < number_of because) = λ l. k.none_earlier why l h.applies in
-            same_number because why (omega arith)
-
-        which : (o : Stepped State Reason) → step j s x ≡ o → step j s x ≡ withheld why
-        which (gives y) e = absurd (given_none_applies y e why h.applies)
-        which (withheld because) e = e ∙ ap withheld (same because (withheld_first because e))
-
-    -- where none applies, it leads on
-    pub none_applies_given : ((why : Reason) → ¬ (Applies j s x why)) → step j s x ≡ gives (after j s x)
-    unfolding step
-    none_applies_given h = which (may j s x) refl
-      where
-        which : (m : May) → may j s x ≡ m → by_may m (after j s x) ≡ gives (after j s x)
-        which Yes is = refl
-        which (No because) is = absurd (h because (judged_step (No because) is).0)

@@ -2,19 +2,19 @@
 -- version 1 file with the same bytes behind the version; and the other way, every accepted version 1 file can say version 2. The machine knows no version.
 use Rattle.std.specs.Prelude.{◌≡◌, ◌⊎◌, Bool, ◌&&◌, eqb, ltb, leb, length, get_or}
 use Rattle.std.proofs.Math.Path.{refl, subst}
-use Rattle.std.proofs.Common.{sym, ap, ◌∙◌, arith}
+use Rattle.std.proofs.Common.{ap, arith}
 use Rattle.std.proofs.Math.Logic.{inl, inr}
 use Rattle.std.proofs.Math.Bool.{true, false, cond}
 use mathlib.Core.List.{List, [], ◌∷◌, ◌++◌}
 use Rattle.std.proofs.Math.Option.{Option, none, some}
 use Prim.Native.Nat.{ℕ, zero, suc, ◌+◌, ◌≤◌}
-use Rattle.rules.specs.Limits.{first_version, second_version, most_threads, most_variables, longest_thread, length_size, shortest_file, width_of, value_size, item_size, longest_file}
+use Rattle.rules.specs.Limits.{first_version, second_version, length_size, shortest_file}
 use Rattle.rules.specs.Job.{Job, start}
 use Rattle.rules.specs.Step.{given, instruction_at, has_thread, has_variable, may_execute_of, may_flush_of, may, after, step}
 use Rattle.rules.specs.Goal.{goal}
 use Rattle.rules.specs.Machine.{explained, machine}
-use Rattle.rules.specs.File.{Read, got, fault, Reader, read_on, ◌>>=◌, done, times, judged, in_range, model_of, capacity_of, byte, item, field}
-use Rattle.rules.specs.File.{register_ok, zero_ok, first_operations, from_second, operations, instruction_of, value, instruction, thread, clause, initial_value, ended, behind_version, fields, flag_of, clause_count_of, length_ok, Decoded, accepted, refused, decoded, decode}
+use Rattle.rules.specs.File.{Read, got, fault, Reader, read_on, ◌>>=◌, done, times, judged, byte, item}
+use Rattle.rules.specs.File.{register_ok, zero_ok, first_operations, from_second, operations, instruction_of, ended, length_ok, Decoded, accepted, refused, decoded, decode}
 use Rattle.rules.specs.declared.Width.TheVariants.{One}
 use Rattle.rules.specs.declared.Instr.{Instr}
 use Rattle.rules.specs.declared.Instr.TheVariants.{Set, Add, Load, Store, Fence, Xchg, Jeq, Jmp, Cmpx, Wfence}
@@ -69,23 +69,23 @@ IsAdded op = (op ≡ 10) ⊎ (op ≡ 11)
 -- operation there (`Barred` tells its refusals), and what the second then gives, if it gives anything, is new.
 
 -- what only the second file can give
-data GivesNew {B : Type 0} (New : B → Type 0) : Read B → Type 0 where
+pub data GivesNew {B : Type 0} (New : B → Type 0) : Read B → Type 0 where
   gives : (b : B) (next : ℕ) → shortest_file ≤ next → New b → GivesNew New (got b next)
   refuses : (number offset : ℕ) → GivesNew New (fault number offset)
 
-data Beside {A B : Type 0} (Barred : (number offset : ℕ) → Type 0) (φ : A → B) (New : B → Type 0) : Read A → Read B → Type 0 where
+pub data Beside {A B : Type 0} (Barred : (number offset : ℕ) → Type 0) (φ : A → B) (New : B → Type 0) : Read A → Read B → Type 0 where
   both_give : (a : A) (next : ℕ) → shortest_file ≤ next → Beside Barred φ New (got a next) (got (φ a) next)
   both_refuse : (number offset : ℕ) → Beside Barred φ New (fault number offset) (fault number offset)
   first_barred : (number offset : ℕ) → Barred number offset → (y : Read B) → GivesNew New y → Beside Barred φ New (fault number offset) y
 
-abbrev same : {A : Type 0} → A → A
+abbrev pub same : {A : Type 0} → A → A
 same a = a
 
-abbrev Follows : {A B : Type 0} → ((number offset : ℕ) → Type 0) → (A → B) → (B → Type 0) → Reader A → Reader B → Type 0
+abbrev pub Follows : {A B : Type 0} → ((number offset : ℕ) → Type 0) → (A → B) → (B → Type 0) → Reader A → Reader B → Type 0
 Follows Barred φ New r s = (at : ℕ) → shortest_file ≤ at → Beside Barred φ New (r at) (s at)
 
 -- once something new was given: what the second reader gives later is new too
-abbrev OnlySecond : {B : Type 0} → (B → Type 0) → Reader B → Type 0
+abbrev pub OnlySecond : {B : Type 0} → (B → Type 0) → Reader B → Type 0
 OnlySecond New s = (at : ℕ) → shortest_file ≤ at → GivesNew New (s at)
 
 done_only : {A : Type 0} {New : A → Type 0} (a : A) → New a → OnlySecond New (done a)
@@ -94,7 +94,7 @@ done_only a new at low = gives a at low new
 
 module _ {Barred : (number offset : ℕ) → Type 0} where
   module _ {A B C : Type 0} {New : A → Type 0} {φ : B → C} {Later : C → Type 0} where
-    then_follows : {r s : Reader A} {f : A → Reader B} {g : A → Reader C} →
+    pub then_follows : {r s : Reader A} {f : A → Reader B} {g : A → Reader C} →
         Follows Barred same New r s → ((a : A) → Follows Barred φ Later (f a) (g a)) → ((a : A) → New a → OnlySecond Later (g a)) → Follows Barred φ Later (r >>= f) (s >>= g)
     unfolding ◌>>=◌ read_on
     then_follows {r} {s} {f} {g} h k new at low = go (r at) (s at) (h at low)
@@ -110,7 +110,7 @@ module _ {Barred : (number offset : ℕ) → Type 0} where
 
   module _ {A C : Type 0} {New : A → Type 0} {Later : C → Type 0} where
     -- a reader whose own value doesn't matter
-    then_only : {r s : Reader A} {g : A → Reader C} → Follows Barred same New r s → ((a : A) → OnlySecond Later (g a)) → OnlySecond Later (s >>= g)
+    pub then_only : {r s : Reader A} {g : A → Reader C} → Follows Barred same New r s → ((a : A) → OnlySecond Later (g a)) → OnlySecond Later (s >>= g)
     unfolding ◌>>=◌ read_on
     then_only {r} {s} {g} h k at low = go (r at) (s at) (h at low)
       where
@@ -129,7 +129,7 @@ module _ {Barred : (number offset : ℕ) → Type 0} where
     done_follows a at low = both_give a at low
 
   module _ {A : Type 0} {New : A → Type 0} where
-    times_follows : (k : ℕ) {r s : Reader A} → Follows Barred same New r s → Follows Barred same (Some New) (times k r) (times k s)
+    pub times_follows : (k : ℕ) {r s : Reader A} → Follows Barred same New r s → Follows Barred same (Some New) (times k r) (times k s)
     unfolding times
     times_follows zero h = done_follows []
     times_follows (suc k) h =
@@ -138,27 +138,27 @@ module _ {Barred : (number offset : ℕ) → Type 0} where
         (λ a new. then_only (times_follows k h) (λ l. done_only (a ∷ l) (inl new)))
 
 -- where nothing can be new, nothing is
-abbrev Nothing : {A : Type 0} → A → Type 0
+abbrev pub Nothing : {A : Type 0} → A → Type 0
 Nothing a = ⊥
 
-some_nothing : {A : Type 0} (l : List A) → Some Nothing l → ⊥
+pub some_nothing : {A : Type 0} (l : List A) → Some Nothing l → ⊥
 some_nothing [] h = elim h [ ]
 some_nothing (a ∷ l) (inl h) = elim h [ ]
 some_nothing (a ∷ l) (inr h) = some_nothing l h
 
 -- The values of items, side by side; `Added` tells where the second file alone may give one.
 
-data Judged {A : Type 0} (Added : Type 0) (New : A → Type 0) : Option A → Option A → Type 0 where
+pub data Judged {A : Type 0} (Added : Type 0) (New : A → Type 0) : Option A → Option A → Type 0 where
   both_none : Judged Added New none none
   both_some : (a : A) → Judged Added New (some a) (some a)
   second_some : Added → (a : A) → New a → Judged Added New none (some a)
 
 module _ {A : Type 0} {Added : Type 0} {New : A → Type 0} where
-  judged_alike : (o : Option A) → Judged Added New o o
+  pub judged_alike : (o : Option A) → Judged Added New o o
   judged_alike none = both_none
   judged_alike (some a) = both_some a
 
-  judged_where : {Elsewhere : Type 0} → (Added → Elsewhere) → {o p : Option A} → Judged Added New o p → Judged Elsewhere New o p
+  pub judged_where : {Elsewhere : Type 0} → (Added → Elsewhere) → {o p : Option A} → Judged Added New o p → Judged Elsewhere New o p
   judged_where f both_none = both_none
   judged_where f (both_some a) = both_some a
   judged_where f (second_some added a new) = second_some (f added) a new
@@ -194,7 +194,7 @@ rows_behind Added New [] m n h = h
 rows_behind Added New (o ∷ l) m n h = (judged_alike o, rows_behind (λ i. Added (suc i)) New l m n h)
 
 -- operations 10 and 11 are version 2's alone, all others are the same
-operations_judged : (vars n op a b c : ℕ)
+pub operations_judged : (vars n op a b c : ℕ)
     → Judged (IsAdded op) IsNew (instruction_of first_version vars n op a b c) (instruction_of second_version vars n op a b c)
 unfolding instruction_of from_second
 operations_judged vars n op a b c =
@@ -219,11 +219,11 @@ pub not_both : {number offset : ℕ} {j : Job} {A : Type 0} → refused number o
 unfolding was_accepted
 not_both e = absurd (omega (arith, ap was_accepted e))
 
-back_accepts : (d : Decoded) (j : Job) → re_versioned second_version d ≡ accepted j → (i : Job) × (d ≡ accepted i) × (j ≡ in_version second_version i)
+pub back_accepts : (d : Decoded) (j : Job) → re_versioned second_version d ≡ accepted j → (i : Job) × (d ≡ accepted i) × (j ≡ in_version second_version i)
 back_accepts (accepted i) j e = (i, refl, cc)
 back_accepts (refused number offset) j e = not_both e
 
-only_new : (y : Read Job) → GivesNew UsesNew y → (j : Job) → decoded y ≡ accepted j → UsesNew j
+pub only_new : (y : Read Job) → GivesNew UsesNew y → (j : Job) → decoded y ≡ accepted j → UsesNew j
 unfolding decoded
 only_new y (gives k next low new) j e = let same_job : k ≡ j = cc in subst UsesNew same_job new
 only_new y (refuses number offset) j e = not_both e
@@ -238,11 +238,11 @@ module _ (one two : List ℕ) (long : length one ≡ length two) (alike : (at : 
   abbrev pub Barred : (number offset : ℕ) → Type 0
   Barred number offset = (number ≡ 4) × IsAdded (byte one offset)
 
-  behind : (at : ℕ) → shortest_file ≤ at → byte one at ≡ byte two at
+  pub behind : (at : ℕ) → shortest_file ≤ at → byte one at ≡ byte two at
   behind at low = alike at (λ e. omega (arith, low, e))
 
   module _ {A : Type 0} {New : A → Type 0} where
-    item_follows : (size number : ℕ) {v w : ℕ → Option A} → ((at : ℕ) → shortest_file ≤ at → Judged (Barred number at) New (v at) (w at))
+    pub item_follows : (size number : ℕ) {v w : ℕ → Option A} → ((at : ℕ) → shortest_file ≤ at → Judged (Barred number at) New (v at) (w at))
         → Follows Barred same New (item one size number v) (item two size number w)
     unfolding item judged
     item_follows size number {v} {w} h at low =
@@ -256,39 +256,7 @@ module _ (one two : List ℕ) (long : length one ≡ length two) (alike : (at : 
         which true o p (both_some a) = both_give a (at + size) (omega arith)
         which true o p (second_some barred a new) = first_barred number at barred (got a (at + size)) (gives a (at + size) (omega arith) new)
 
-    field_follows : (number : ℕ) (value : ℕ → Option A) → Follows Barred same New (field one number value) (field two number value)
-    unfolding field
-    field_follows number value =
-        item_follows 1 number
-        (λ at low. subst (λ k. Judged (Barred number at) New (value (byte one at)) (value k)) (behind at low) (judged_alike (value (byte one at))))
-
-  instruction_follows : (vars n : ℕ) → Follows Barred same IsNew (instruction one first_version vars n) (instruction two second_version vars n)
-  unfolding instruction value
-  instruction_follows vars n =
-      item_follows (item_size One) 4
-      (λ at low.
-      rw (behind at low, behind (at + 1) (omega arith), behind (at + 2) (omega arith), behind (at + 3) (omega arith))
-      (judged_where (λ added. (refl, added)) (operations_judged vars n (byte two at) (byte two (at + 1)) (byte two (at + 2)) (byte two (at + 3)))))
-
-  thread_follows : (vars : ℕ) → Follows Barred same (Some IsNew) (thread one first_version vars) (thread two second_version vars)
-  unfolding thread
-  thread_follows vars =
-      then_follows {New = λ n. ⊥} (field_follows 4 (in_range 0 longest_thread)) (λ n. times_follows n (instruction_follows vars n)) (λ n new. absurd new)
-
-  -- the goal: nothing of it is new, but the job may be
-  clause_follows : (vars : ℕ) (threads : List (List Instr)) → Follows Barred same (λ c. ⊥) (clause one One vars threads) (clause two One vars threads)
-  unfolding clause value
-  clause_follows vars threads =
-      item_follows (item_size One) 5
-      (λ at low.
-      rw (behind at low, behind (at + 1) (omega arith), behind (at + 2) (omega arith), behind (at + 3) (omega arith))
-      (judged_alike _))
-
-  initial_follows : Follows Barred same (λ k. ⊥) (initial_value one One) (initial_value two One)
-  unfolding initial_value value
-  initial_follows = item_follows (value_size One) 6 (λ at low. rw (behind at low) (judged_alike _))
-
-  ended_follows : (j : Job) → Follows Barred (in_version second_version) UsesNew (ended one j) (ended two (in_version second_version j))
+  pub ended_follows : (j : Job) → Follows Barred (in_version second_version) UsesNew (ended one j) (ended two (in_version second_version j))
   unfolding ended
   ended_follows j at low =
       subst (λ n. Beside Barred (in_version second_version) UsesNew (ended one j at) (cond (eqb at n) (got (in_version second_version j) at) (fault 6 at)))
@@ -299,7 +267,7 @@ module _ (one two : List ℕ) (long : length one ≡ length two) (alike : (at : 
       which true = both_give j at low
       which false = both_refuse 6 at
 
-  ended_only : (j : Job) → UsesNew j → OnlySecond UsesNew (ended two j)
+  pub ended_only : (j : Job) → UsesNew j → OnlySecond UsesNew (ended two j)
   unfolding ended
   ended_only j new at low = which (eqb at (length two))
     where
@@ -307,79 +275,7 @@ module _ (one two : List ℕ) (long : length one ≡ length two) (alike : (at : 
       which true = gives j at low new
       which false = refuses 6 at
 
-  -- the rest of the fields: where only the second gives a job, its threads have something new
-  rest_follows : Follows Barred (in_version second_version) UsesNew (behind_version one first_version) (behind_version two second_version)
-  rest_follows =
-      then_follows {New = Nothing} (field_follows 3 model_of)
-      (λ model. then_follows {New = Nothing} (field_follows 3 (capacity_of model))
-      (λ capacity. then_follows {New = Nothing} (field_follows 3 (in_range 1 most_threads))
-      (λ count. then_follows {New = Nothing} (field_follows 3 (in_range 1 most_variables))
-      (λ vars. then_follows {New = Some Nothing} (times_follows vars initial_follows)
-      (λ initial. then_follows (times_follows count (thread_follows vars))
-      (λ threads. then_follows {New = Nothing} (field_follows 5 flag_of)
-      (λ flag. then_follows {New = Nothing} (field_follows 5 clause_count_of)
-      (λ K. then_follows {New = Some Nothing} (times_follows K (clause_follows vars threads))
-      (λ clauses. ended_follows _)
-      (λ clauses new. absurd (some_nothing clauses new)))
-      (λ K new. absurd new))
-      (λ flag new. absurd new))
-      (λ threads new.
-      then_only {New = Nothing} (field_follows 5 flag_of)
-      (λ flag. then_only {New = Nothing} (field_follows 5 clause_count_of)
-      (λ K. then_only {New = Some Nothing} (times_follows K (clause_follows vars threads)) (λ clauses. ended_only _ new)))))
-      (λ initial new. absurd (some_nothing initial new)))
-      (λ vars new. absurd new))
-      (λ count new. absurd new))
-      (λ capacity new. absurd new))
-      (λ model new. absurd new)
-
   module _ (is_first : byte one length_size ≡ first_version) (is_second : byte two length_size ≡ second_version) where
-    fields_follow : Beside Barred (in_version second_version) UsesNew (fields one length_size) (fields two length_size)
-    unfolding fields ◌>>=◌ read_on field item judged in_range
-    fields_follow = rw (is_first, is_second, ← long) (which (leb (length_size + 1) (length one)))
-      where
-        which : (b : Bool) → Beside Barred (in_version second_version) UsesNew
-            (read_on (cond b (got first_version shortest_file) (fault 6 length_size)) (behind_version one))
-            (read_on (cond b (got second_version shortest_file) (fault 6 length_size)) (behind_version two))
-        which true = rest_follows shortest_file (omega arith)
-        which false = both_refuse 6 length_size
-
-    length_alike : length_ok one ≡ length_ok two
+    pub length_alike : length_ok one ≡ length_ok two
     unfolding length_ok
     length_alike = rw (is_first, is_second, long, alike 0 (λ e. omega (arith, e)), alike 1 (λ e. omega (arith, e)))
-
-    -- Every pair of files: the second holds the first's job but for the version, or is refused with the same number and offset; or the first bars it.
-    pub two_files : (decode two ≡ re_versioned second_version (decode one)) ⊎ FirstBars one two
-    unfolding decode decoded
-    two_files =
-        subst (λ d. (d ≡ re_versioned second_version (decode one))
-        ⊎ ((offset : ℕ) × (decode one ≡ refused 4 offset) × IsAdded (byte one offset) × ((j : Job) → d ≡ accepted j → UsesNew j)))
-        (rw length_alike)
-        (which (length_ok one) (fields one length_size) (fields two length_size) fields_follow)
-      where
-        which : (b : Bool) (x y : Read Job) → Beside Barred (in_version second_version) UsesNew x y
-            → (cond b (decoded y) (refused 1 0) ≡ re_versioned second_version (cond b (decoded x) (refused 1 0)))
-            ⊎ ((offset : ℕ) × (cond b (decoded x) (refused 1 0) ≡ refused 4 offset) × IsAdded (byte one offset)
-            × ((j : Job) → cond b (decoded y) (refused 1 0) ≡ accepted j → UsesNew j))
-        which false x y h = inl refl
-        which true x y (both_give j next low) = inl refl
-        which true x y (both_refuse number offset) = inl refl
-        which true x y (first_barred number offset (by_four, added) _ new) = inr (offset, rw by_four, added, only_new y new)
-
-    -- every accepted version 1 file may say version 2, and then holds the same job but for the version
-    pub second_accepts : (j : Job) → decode one ≡ accepted j → decode two ≡ accepted (in_version second_version j)
-    second_accepts j e = which two_files
-      where
-        which : (decode two ≡ re_versioned second_version (decode one)) ⊎ FirstBars one two
-            → decode two ≡ accepted (in_version second_version j)
-        which (inl h) = h ∙ ap (re_versioned second_version) e
-        which (inr (offset, first, added, new)) = not_both (sym first ∙ e)
-
-    -- a version 2 file that uses neither operation holds, but for the version, the job of the version 1 file
-    pub first_accepts : (j : Job) → decode two ≡ accepted j → ¬ (UsesNew j) → (i : Job) × (decode one ≡ accepted i) × (j ≡ in_version second_version i)
-    first_accepts j e old = which two_files
-      where
-        which : (decode two ≡ re_versioned second_version (decode one)) ⊎ FirstBars one two
-            → (i : Job) × (decode one ≡ accepted i) × (j ≡ in_version second_version i)
-        which (inl h) = back_accepts (decode one) j (sym h ∙ e)
-        which (inr (offset, first, added, new)) = absurd (old (new j e))

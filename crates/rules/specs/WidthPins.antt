@@ -1,5 +1,5 @@
 -- Rows of request 10: version 3, worked from the request's text.
-use Rattle.std.specs.Prelude.{List, [], ◌∷◌, ◌++◌, set, take, replicate, ℕ}
+use Rattle.std.specs.Prelude.{List, [], ◌∷◌, ◌++◌, set, take, replicate}
 use Rattle.reach.specs.Replay.{reaches, falls_short, stuck}
 use Rattle.rules.specs.Claims.{Case, case, search_reaches, replay_says, slot_after, refuses, fences_say}
 use Rattle.rules.specs.Fences.{fenced}

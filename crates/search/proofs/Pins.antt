@@ -3,7 +3,8 @@ use Rattle.std.specs.Prelude.{refl, [], ◌∷◌, set}
 use Rattle.rules.specs.Jobs.{p1, p12}
 use Rattle.rules.specs.Claims.{row_refuses}
 use Rattle.rules.specs.Pins.{pins}
-use Rattle.rules.specs.Worked.{table, worked, pinned}
+use Rattle.rules.specs.Worked.{table}
+use Rattle.rules.proofs.Worked.{worked, pinned}
 use Rattle.search.specs.Pins.{RefusedWithNoSlot, refused_first}
 
 -- of each number one, and a blank goal, by their rows in 01's list or beyond it

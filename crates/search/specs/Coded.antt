@@ -9,7 +9,7 @@ use Rattle.rules.specs.Slot.{slot_bytes}
 use Rattle.rules.specs.Machine.{machine}
 use Rattle.rules.specs.Same.{searchable}
 use Rattle.rules.specs.Sound.{JobIn, WellFormed}
-use Rattle.rules.specs.Keeps.{run_well_formed}
+use Rattle.rules.proofs.Keeps.{run_well_formed}
 use Rattle.rules.specs.SlotLaws.{slot_bytes_number, slot_bytes_equal}
 
 abbrev pub coding : Job → Coding

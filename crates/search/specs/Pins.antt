@@ -9,7 +9,8 @@ use Rattle.rules.specs.Machine.{machine}
 use Rattle.rules.specs.File.{accepted, refused, decode, job_of}
 use Rattle.rules.specs.Jobs.{p1}
 use Rattle.rules.specs.Claims.{search_reaches, row_accepts}
-use Rattle.rules.specs.Worked.{table, worked}
+use Rattle.rules.specs.Worked.{table}
+use Rattle.rules.proofs.Worked.{worked}
 use Rattle.lent.specs.Meaning.{Lent, slots_lent, AnsweredWith}
 use Rattle.search.specs.Meaning.{words, slots_of, slots_indexed, SearchIn, SearchedIn, IndexedPromise}
 use Rattle.search.specs.declared.Answer.TheVariants.{Refused, Reachable, Unreachable, Unknown}

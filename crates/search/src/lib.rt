@@ -209,7 +209,7 @@ fn search_accepted(
     l: Layout,
 ) -> Answer
     requires accepted { IsAccepted job.now l }
-    requires has_room { HasRoom slots (record { table = table.now; links = links.old; schedule = schedule.old }) index.old width }
+    requires has_room { HasRoom slots (record { table = table.old; links = links.old; schedule = schedule.old }) index.old width }
     ensures { AnsweredWith (machine (job_of job.now)) slot_size slot_bytes slots
         (record { table = table.old; links = links.old; schedule = schedule.old }) (words result)
         (record { table = table.new; links = links.new; schedule = schedule.new })

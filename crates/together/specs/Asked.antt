@@ -4,7 +4,7 @@ use Rattle.std.proofs.Common.{ap}
 use Rattle.reach.specs.Words.{refusal_words}
 use Rattle.rules.specs.Job.{Job}
 use Rattle.rules.specs.File.{Decoded, accepted, refused, decode}
-use Rattle.rules.specs.Asked.{some_clause}
+use Rattle.rules.proofs.Asked.{some_clause}
 use Rattle.lent.specs.Meaning.{Lent}
 use Rattle.search.specs.Meaning.{SearchIn, SearchedIn}
 use Rattle.replay.specs.Meaning.{ReplayOf, ReplayPromise}

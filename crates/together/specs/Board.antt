@@ -8,7 +8,7 @@ use Rattle.rules.specs.Job.{Job}
 use Rattle.rules.specs.File.{accepted, decode}
 use Rattle.rules.specs.Fences.{fenced, ChecksTo}
 use Rattle.fences.specs.Meaning.{FenceFor, FenceOf, FencePromise, fences_accepted}
-use Rattle.rules.specs.Accepted.{accepted_in}
+use Rattle.rules.proofs.Accepted.{accepted_in}
 use Rattle.rules.specs.Sound.{JobIn}
 use Rattle.rules.specs.declared.Model.TheVariants.{Sc, Tso}
 use Rattle.signed.specs.Under.{under, under_sc}

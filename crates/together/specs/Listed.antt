@@ -27,7 +27,8 @@ use Rattle.rules.specs.State.{State}
 use Rattle.rules.specs.Accepted.{job_of_accepted}
 use Rattle.rules.specs.Claims.{Claim, search_reaches, search_never, search_unknown, slots_follow, links_are, fences_say, replay_says, slot_after, enabled_after, withheld_after, refuses, Case, CaseHolds, Meant, InTurn}
 use Rattle.rules.specs.Pins.{pins}
-use Rattle.rules.specs.Worked.{table, worked, pinned}
+use Rattle.rules.specs.Worked.{table}
+use Rattle.rules.proofs.Worked.{worked, pinned}
 use Rattle.fences.specs.Meaning as fences
 use Rattle.replay.specs.Meaning as replay
 use Rattle.lent.specs.Meaning.{Lent, IsRefused, IsAnswered, AnsweredWith}

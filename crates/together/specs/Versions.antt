@@ -8,7 +8,8 @@ use Rattle.rules.specs.Job.{Job, start}
 use Rattle.rules.specs.Step.{instruction_at, has_thread, has_variable, may_execute_of, may_flush_of, may, after, step}
 use Rattle.rules.specs.Goal.{goal}
 use Rattle.rules.specs.File.{byte, Decoded, accepted, refused, decode}
-use Rattle.rules.specs.Versions.{in_version, re_versioned, UsesNew, FirstBars, two_files, second_accepts, first_accepts}
+use Rattle.rules.specs.Versions.{in_version, re_versioned, UsesNew, FirstBars}
+use Rattle.rules.proofs.Versions.{two_files, second_accepts, first_accepts}
 use Rattle.fences.specs.Meaning as fences
 use Rattle.replay.specs.Meaning as replay
 use Rattle.lent.specs.Meaning.{Lent}

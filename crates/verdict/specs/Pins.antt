@@ -13,7 +13,8 @@ use Rattle.rules.specs.declared.Model.TheVariants.{Sc, Tso, Pso}
 use Rattle.rules.specs.Jobs.{p1, p2, p4, p6, p7, p9, p12, p9_sc, p9_sc_drained, p2_drained, parked_store}
 use Rattle.rules.specs.Claims.{Case, case, CaseHolds, search_reaches, search_never, search_unknown, fences_say, row_refuses, row_accepts}
 use Rattle.rules.specs.Pins.{pins}
-use Rattle.rules.specs.Worked.{table, worked, pinned}
+use Rattle.rules.specs.Worked.{table}
+use Rattle.rules.proofs.Worked.{worked, pinned}
 use Rattle.lent.specs.Meaning.{Lent}
 use Rattle.search.specs.Meaning as search
 use Rattle.search.specs.Pins.{none_lent}

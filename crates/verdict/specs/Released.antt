@@ -4,7 +4,7 @@ use Rattle.std.proofs.Common.{sym, subst}
 use Rattle.reach.specs.Meaning.{NoGoal}
 use Rattle.rules.specs.File.{accepted, decode, job_of}
 use Rattle.rules.specs.Machine.{machine}
-use Rattle.rules.specs.Accepted.{accepted_in}
+use Rattle.rules.proofs.Accepted.{accepted_in}
 use Rattle.rules.specs.declared.Model.TheVariants.{Sc, Tso}
 use Rattle.signed.specs.Under.{under, under_sc}
 use Rattle.signed.proofs.NeverContradict.{no_goal_alike}

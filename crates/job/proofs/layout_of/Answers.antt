@@ -2,7 +2,7 @@
 use Prim.Native.Nat.{ℕ, ◌<◌}
 use Rattle.reach.specs.ListLaws.{all_by_getD}
 use Rattle.rules.specs.Limits.{byte_values}
-use Rattle.rules.specs.Accepted.{accepted_in}
+use Rattle.rules.proofs.Accepted.{accepted_in}
 use Rattle.job.proofs.FieldsGot.{accepted_threads, accepted_laid}
 use Rattle.job.proofs.layout_of.Goals as goal
 
