@@ -242,7 +242,7 @@ module _ (code : List Instr) (live : ℕ) (from_zero : FromPlaceZero code live) 
 
   live_is_met : s < length code → Live code s → LiveBy live s
   live_is_met inside (inl e) = inl e
-  live_is_met inside (inr w) = inr (from_zero.complete s inside w)
+  live_is_met inside (inr w) = inr (from_zero.complete s (omega (arith, inside)) w)
 
   -- where a store that counts stands, the loads that were met are the open ones
   pub open_of : LiveStore code live s → (m r : ℕ) → Met NoFence code s m →

@@ -117,7 +117,7 @@ fn places_met(job: &[u8], l: Layout, t: u8, by: Passing, first: u8) -> u64
 {
     let mut earlier: u64 = 0;
     let mut met = look(job, l, t, by, first, 0);
-    while earlier < met {
+    'looks: while earlier < met {
         earlier = met;
         met = look(job, l, t, by, first, met);
     }

@@ -1,5 +1,4 @@
 -- A job's machine with its states as slots: an instance of the theory of searching in lent memory.
-use Rattle.std.specs.Prelude.{◌≡◌, ℕ, ◌≤◌}
 use Rattle.std.proofs.Common.{arith}
 use Rattle.reach.specs.Meaning.{Reached}
 use Rattle.lent.specs.Coding.{Coding, Faithful}

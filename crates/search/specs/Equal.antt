@@ -1,10 +1,10 @@
 -- Request 6: "Answers, slots, links and schedule are equal to the plain search's at the same N." Of any two outcomes that the two promises allow.
-use Rattle.std.specs.Prelude.{◌≡◌, refl, List, ℕ, zero, suc, ◌/◌, ◌≤◌, min, length}
+use Rattle.std.specs.Prelude.{◌≡◌, List, ℕ, zero, suc, ◌/◌, ◌≤◌, length}
 use Rattle.std.proofs.Common.{sym, ◌∙◌, ap, subst, arith}
 use Rattle.reach.specs.Meaning.{Outcome, Means}
 use Rattle.reach.proofs.Unique.{one_outcome}
 use Rattle.reach.specs.Words.{answer_words}
-use Rattle.lent.specs.Meaning.{Lent, filled, IsRefused}
+use Rattle.lent.specs.Meaning.{Lent, filled}
 use Rattle.rules.specs.Limits.{slot_size}
 use Rattle.rules.specs.State.{State}
 use Rattle.rules.specs.Job.{Job}
@@ -57,13 +57,6 @@ module _ (m : Lent) (ws : List ℕ) (m' n : Lent) (vs : List ℕ) (n' : Lent) wh
       }
   equal_in zero (refused number offset) h k = record { answer = h.answer ∙ sym k.answer; written = record { one = h.untouched; other = k.untouched } }
   equal_in (suc b) (refused number offset) h k = record { answer = h.answer ∙ sym k.answer; written = record { one = h.untouched; other = k.untouched } }
-
-  -- the search with an index and the plain one, where the memory that is lent to each makes up the same N
-  pub equal_to_plain :
-      (bytes index index' : List ℕ) → slots_indexed m index ≡ slots_of n → IndexedPromise bytes m index ws m' index' → SearchPromise bytes n vs n' →
-      Equal (slots_of n) (decode bytes) m ws m' n vs n'
-  equal_to_plain bytes index index' same h k =
-      equal_in (slots_of n) (decode bytes) (subst (λ N. SearchedIn N bytes m ws m') same h.searched) k
 
 -- in the same memory, with an index of at least two numbers for each slot: every byte of it
 pub byte_for_byte :

@@ -1,5 +1,5 @@
 -- Worked values of N, of refusal 7 and of the words: 01, "Search" and "Refusal numbers and their order"; the slot in pieces: request 3.
-use Rattle.std.specs.Prelude.{◌≡◌, refl, List, [], ◌∷◌, ℕ, ◌%◌, ◌≤◌, length, set}
+use Rattle.std.specs.Prelude.{◌≡◌, refl, List, [], ◌∷◌, ℕ, ◌%◌, ◌≤◌, length}
 use Rattle.std.proofs.Common.{subst, arith}
 use Rattle.reach.specs.Lists.{All}
 use Rattle.span.specs.Pieces.{piece_size}
@@ -7,11 +7,10 @@ use Rattle.rules.specs.Limits.{slot_size}
 use Rattle.rules.specs.Slot.{slot_bytes}
 use Rattle.rules.specs.Machine.{machine}
 use Rattle.rules.specs.File.{accepted, refused, decode, job_of}
-use Rattle.rules.specs.Jobs.{p1, p12}
-use Rattle.rules.specs.Claims.{search_reaches, row_accepts, row_refuses}
-use Rattle.rules.specs.Pins.{pins}
+use Rattle.rules.specs.Jobs.{p1}
+use Rattle.rules.specs.Claims.{search_reaches, row_accepts}
 use Rattle.rules.specs.Worked.{table}
-use Rattle.rules.proofs.Worked.{worked, pinned}
+use Rattle.rules.proofs.Worked.{worked}
 use Rattle.lent.specs.Meaning.{Lent, slots_lent, AnsweredWith}
 use Rattle.search.specs.Meaning.{words, slots_of, slots_indexed, SearchIn, SearchedIn, IndexedPromise}
 use Rattle.search.specs.declared.Answer.TheVariants.{Refused, Reachable, Unreachable, Unknown}
@@ -135,7 +134,7 @@ short_index bytes is m m' index index' ws short h =
     (refusal.0, refusal.1, h.unchanged 7 0 refusal.0)
 
 -- "7 last": a job that has a fault of 1 to 6 is refused by that, with no slot lent too
-refused_first : (bytes : List ℕ) (number offset : ℕ) → decode bytes ≡ refused number offset → RefusedWithNoSlot bytes number offset
+pub refused_first : (bytes : List ℕ) (number offset : ℕ) → decode bytes ≡ refused number offset → RefusedWithNoSlot bytes number offset
 refused_first bytes number offset is N m m' ws none h =
     let refusal = subst (λ d. SearchIn N d m ws m') is h in
     (refusal.answer, refusal.untouched)
@@ -147,26 +146,6 @@ pub refused_index :
 refused_index bytes number offset is m m' index index' ws h =
     let refusal = subst (λ d. SearchIn (slots_indexed m index) d m ws m') is h.searched in
     (refusal.answer, refusal.untouched, h.unchanged number offset refusal.answer)
-
--- of each number one, and a blank goal, by their rows in 01's list or beyond it
-pub seven_is_last :
-    RefusedWithNoSlot [] 1 0
-    × RefusedWithNoSlot (set p1 2 0x00) 2 2
-    × RefusedWithNoSlot (set p1 5 0x05) 3 5
-    × RefusedWithNoSlot (set p1 10 0x0A) 4 10
-    × RefusedWithNoSlot (set p1 27 0x02) 5 27
-    × RefusedWithNoSlot p12 5 28
-    × RefusedWithNoSlot (0x00 ∷ 0x01 ∷ 0x01 ∷ []) 6 3
-unfolding table pins
-seven_is_last = (
-  refused_first [] 1 0 (row_refuses table worked 17 640 [] 1 0 refl),
-  refused_first (set p1 2 0x00) 2 2 (row_refuses pins pinned 14 640 (set p1 2 0x00) 2 2 refl),
-  refused_first (set p1 5 0x05) 3 5 (row_refuses pins pinned 10 640 (set p1 5 0x05) 3 5 refl),
-  refused_first (set p1 10 0x0A) 4 10 (row_refuses table worked 20 640 (set p1 10 0x0A) 4 10 refl),
-  refused_first (set p1 27 0x02) 5 27 (row_refuses pins pinned 11 640 (set p1 27 0x02) 5 27 refl),
-  refused_first p12 5 28 (row_refuses table worked 15 640 p12 5 28 refl),
-  refused_first (0x00 ∷ 0x01 ∷ 0x01 ∷ []) 6 3 (row_refuses table worked 19 640 (0x00 ∷ 0x01 ∷ 0x01 ∷ []) 6 3 refl),
-)
 
 -- the words of each case: its number, and its values in their order
 pub words_are :

@@ -10,7 +10,7 @@ use Rattle.state.specs.Held.{held}
 use Rattle.state.specs.Parts.{Holds}
 use Rattle.state.specs.declared.State.{State}
 use Rattle.slot.specs.Table.{ReadFrom}
-use Rattle.slot.specs.ReadHeld.{read_held}
+use Rattle.slot.proofs.ReadHeld.{read_held}
 use Rattle.engine.specs.At.{At}
 use Rattle.search.specs.Coded.{coding, reached_well_formed}
 

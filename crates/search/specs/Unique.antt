@@ -34,7 +34,7 @@ module _ (m : Lent) (ws vs : List ℕ) (m' n' : Lent) where
 
   pub search_once_in : (N : ℕ) (d : Decoded) → SearchIn N d m ws m' → SearchIn N d m vs n' → Same ws vs m' n'
   search_once_in N (accepted j) h k = answered_once (searchable j) slot_size slot_bytes N h k
-  search_once_in N (refused number offset) h k = refused_once number offset h k
+  search_once_in N (refused number offset) h k = record { answer = h.answer ∙ sym k.answer; buffers = h.untouched ∙ sym k.untouched }
 
   pub search_once : (bytes : List ℕ) → SearchPromise bytes m ws m' → SearchPromise bytes m vs n' → Same ws vs m' n'
   search_once bytes h k = search_once_in (slots_of m) (decode bytes) h k

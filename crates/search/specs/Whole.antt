@@ -1,9 +1,9 @@
 -- The whole search, from what its parts promise.
-use Rattle.std.specs.Prelude.{◌≡◌, refl, false, List, ℕ, zero, suc, ◌+◌, ◌*◌, ◌/◌, ◌≤◌, ◌<◌, min, length, get_or}
+use Rattle.std.specs.Prelude.{◌≡◌, refl, false, List, ℕ, zero, suc, ◌+◌, ◌/◌, ◌≤◌, ◌<◌, min, length, get_or}
 use Rattle.std.proofs.Common.{sym, ◌∙◌, ap, subst, mul-le-mul_left, arith}
 use Rattle.reach.specs.Words.{refusal_words, answer_words}
 use Rattle.reach.specs.Meaning.{no_link, Answer, reachable, unreachable, unknown}
-use Rattle.lent.specs.Meaning.{Lent, slots_lent, IsRefused, IsAnswered, AnsweredWith}
+use Rattle.lent.specs.Meaning.{Lent, slots_lent, IsAnswered, AnsweredWith}
 use Rattle.lent.specs.Parts.{Memory, with_one_more, Expanded}
 use Rattle.lent.specs.Kept.{Lends}
 use Rattle.lent.specs.Searching.{Searching}
@@ -14,14 +14,14 @@ use Rattle.shelf.specs.declared.Front.{Front}
 use Rattle.rules.specs.Limits.{slot_size, most_slots}
 use Rattle.rules.specs.State as rules
 use Rattle.rules.specs.Job.{Job, start}
-use Rattle.rules.specs.File.{Decoded, accepted, refused, decode, job_of}
+use Rattle.rules.specs.File.{accepted, refused, decode, job_of}
 use Rattle.rules.specs.Slot.{slot_bytes}
 use Rattle.rules.specs.Machine.{machine}
 use Rattle.state.specs.Parts.{Holds}
 use Rattle.state.specs.declared.State.{State}
 use Rattle.slot.specs.Bytes.{state_bytes}
 use Rattle.slot.specs.BytesLaws.{sized, state_bytes_number}
-use Rattle.slot.specs.StateHeld.{state_bytes_held}
+use Rattle.slot.proofs.StateHeld.{state_bytes_held}
 use Rattle.search.specs.Meaning.{slots_of, slots_indexed, SearchIn}
 use Rattle.search.specs.Coded.{coding}
 

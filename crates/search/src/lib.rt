@@ -161,7 +161,7 @@ fn turns(
     let mut next: usize = 0;
     let mut mark: usize = 0;
     let mut d: usize = 0;
-    loop {
+    'turns: loop {
         if next < mark {
             front = expand(table, links, index, width, front, slots, next, job, l);
             if front.full {

@@ -1,15 +1,11 @@
 -- How many elements the arrays of a state have, by their types.
-use mathlib.Core.Path.{◌≡◌, sym, ◌∙◌}
-use mathlib.Core.List.{List, [], ◌∷◌, map}
-use Prim.Native.Nat.{ℕ}
-use lib.ListN.{length, length-map}
+use mathlib.Core.List.{List, [], ◌∷◌}
 use mir.Val.{Val}
 use denote.Laws.{Is}
 use denote.Shadow.{shadow}
 use denote.Array.{each}
 use denote.Struct.Declared.{row}
 use Rattle.reach.specs.Lists.{All}
-use Rattle.rules.specs.Limits.{most_threads, memory_size, registers_size, entries_size}
 use Rattle.buffer.specs.contracts.Buf.{the_row}
 use Rattle.state.specs.contracts.State.{the_type}
 use Rattle.buffer.specs.declared.Buf.{Buf}

@@ -1,5 +1,5 @@
 -- A buffer's bytes are those that 01 gives for the buffer it holds.
-use Rattle.std.specs.Prelude.{◌≡◌, ◌∷◌, ℕ}
+use Rattle.std.specs.Prelude.{◌≡◌, ◌∷◌}
 use Rattle.std.proofs.Common.{sym, ap}
 use Rattle.rules.specs.Slot as rules
 use Rattle.buffer.specs.declared.Buf.{Buf}

@@ -1,6 +1,6 @@
 -- A state's bytes: as many as a slot has, and equal only for equal states.
-use Rattle.std.specs.Prelude.{◌≡◌, refl, List, [], ◌∷◌, ◌++◌, ℕ, zero, suc, ◌*◌, ◌<◌, ◌≤◌, length, get_or, take}
-use Rattle.std.proofs.Common.{sym, ◌∙◌, append_assoc, append-nil, arith, length-append, length-take, take-suc}
+use Rattle.std.specs.Prelude.{◌≡◌, refl, List, [], ◌∷◌, ◌++◌, ℕ, suc, ◌*◌, ◌<◌, ◌≤◌, length, get_or, take}
+use Rattle.std.proofs.Common.{append_assoc, append-nil, arith, length-append, length-take, take-suc}
 use Rattle.reach.specs.Lists.{All}
 use Rattle.reach.specs.ListLaws.{append_equal, all_imp}
 use Rattle.rules.specs.Limits.{buffer_size, slot_size}
@@ -47,7 +47,7 @@ sized s h = record {
   full = all_imp BufferOk FullBuffer (λ b k. k.size) s.bufs h.buffers;
 }
 
-buffers_bytes_equal : (l m : List Buf) → length l ≡ length m
+pub buffers_bytes_equal : (l m : List Buf) → length l ≡ length m
     → All FullBuffer l → All FullBuffer m → buffers_bytes l ≡ buffers_bytes m → l ≡ m
 unfolding buffers_bytes buffer_bytes
 buffers_bytes_equal [] [] n h k e = refl
@@ -59,14 +59,3 @@ buffers_bytes_equal (b ∷ l) (c ∷ m) n h k e =
     let entries : b.slots ≡ c.slots = cc in
     let rest = buffers_bytes_equal l m (omega arith) h.1 k.1 parts.1 in
     λ i. record { count = count i; slots = entries i } ∷ rest i
-
--- states with the same bytes are the same state
-pub state_bytes_equal : (x y : State) → Sized x → Sized y → state_bytes x ≡ state_bytes y → x ≡ y
-unfolding state_bytes
-state_bytes_equal x y h k e =
-    let p = append_equal x.places y.places _ _ (h.places_number ∙ sym k.places_number) (simp append_assoc at e) in
-    let r = append_equal x.regs y.regs _ _ (h.registers_number ∙ sym k.registers_number) p.1 in
-    let m = append_equal x.mem y.mem _ _ (h.memory_number ∙ sym k.memory_number) r.1 in
-    let n = h.buffers_number ∙ sym k.buffers_number in
-    let b = buffers_bytes_equal x.bufs y.bufs n h.full k.full m.1 in
-    λ i. record { places = p.0 i; regs = r.0 i; mem = m.0 i; bufs = b i }

@@ -5,15 +5,15 @@ use Rattle.fences.proofs.places_met.Goals as goal
 pub look-met-requires : goal.look-met-requires
 look-met-requires c = c.requires
 
-pub loop-earlier-init : goal.loop-earlier-init
-loop-earlier-init c = record { fits = omega arith; sound = sound_none _ _ _; grown = c.look-met.ensures }
+pub looks-init : goal.looks-init
+looks-init c = record { fits = omega arith; sound = sound_none _ _ _; grown = c.look-met.ensures }
 
-pub look-met-requires-in-loop-earlier : goal.look-met-requires-in-loop-earlier
-look-met-requires-in-loop-earlier c = c.requires
+pub look-met-requires-in-looks : goal.look-met-requires-in-looks
+look-met-requires-in-looks c = c.requires
 
-pub loop-earlier-preserved : goal.loop-earlier-preserved
-loop-earlier-preserved c =
-    record { fits = omega arith; sound = c.loop-earlier.invariant.grown.sound c.loop-earlier.invariant.sound; grown = c.look-met-in-loop-earlier.ensures }
+pub looks-preserved : goal.looks-preserved
+looks-preserved c =
+    record { fits = omega arith; sound = c.looks.invariant.grown.sound c.looks.invariant.sound; grown = c.look-met-in-looks.ensures }
 
 pub returns : goal.returns
-returns c = all_met _ _ _ (short _ _ c.requires.in_range) _ _ c.loop-earlier.invariant.sound c.loop-earlier.invariant.grown (omega arith)
+returns c = all_met _ _ _ (short _ _ c.requires.in_range) _ _ c.looks.invariant.sound c.looks.invariant.grown (omega arith)

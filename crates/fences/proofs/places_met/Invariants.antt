@@ -13,8 +13,8 @@ pub record Looking (by : Passing) (code : List Instr) (first earlier met : ℕ) 
   pub sound : Sound by code first earlier
   pub grown : Grown by code first (λ q. q < length code) earlier met
 
-abbrev pub invariant-loop-earlier : goal.invariant-loop-earlier
-invariant-loop-earlier l = Looking l.by (thread_of l.job l.t) l.first l.earlier l.met
+abbrev pub invariant-looks : goal.invariant-looks
+invariant-looks l = Looking l.by (thread_of l.job l.t) l.first l.earlier l.met
 
-abbrev pub decreases-loop-earlier : goal.decreases-loop-earlier
-decreases-loop-earlier l = 2 ^ width - l.earlier
+abbrev pub decreases-looks : goal.decreases-looks
+decreases-looks l = 2 ^ width - l.earlier

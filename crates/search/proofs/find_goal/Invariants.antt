@@ -2,7 +2,6 @@
 use Prim.Native.Nat.{◌-◌}
 use Rattle.lent.specs.Looking.{Looking}
 use Rattle.rules.specs.File.{job_of}
-use Rattle.rules.specs.Goal.{goal}
 use Rattle.search.specs.Coded.{coding}
 use Rattle.search.proofs.find_goal.Given as goal
 

@@ -8,11 +8,11 @@ use Rattle.rules.specs.File.{job_of}
 use Rattle.search.specs.Whole.{Turning}
 use Rattle.search.proofs.turns.Given as goal
 
-abbrev pub invariant-loop-next : goal.invariant-loop-next
-invariant-loop-next l = Turning (job_of l.job) l.slots (memory l.initial.table l.initial.links l.initial.front) l.d l.mark l.next (memory l.table l.links l.front)
+abbrev pub invariant-turns : goal.invariant-turns
+invariant-turns l = Turning (job_of l.job) l.slots (memory l.initial.table l.initial.links l.initial.front) l.d l.mark l.next (memory l.table l.links l.front)
     × (l.schedule ≡ l.initial.schedule)
     × Ready slot_size l.slots l.table l.index l.width l.front.count
     × (length l.index ≡ length l.initial.index)
 
-abbrev pub decreases-loop-next : goal.decreases-loop-next
-decreases-loop-next l = (l.slots - l.next) + (l.slots - l.mark)
+abbrev pub decreases-turns : goal.decreases-turns
+decreases-turns l = (l.slots - l.next) + (l.slots - l.mark)

@@ -11,9 +11,9 @@ use Rattle.state.specs.Held.{held, written, StateOk}
 use Rattle.state.specs.HeldLaws.{held_written, written_ok}
 use Rattle.state.specs.Parts.{Holds}
 use Rattle.state.specs.declared.State.{State}
-use Rattle.slot.specs.Bytes.{state_bytes}
-use Rattle.slot.specs.BytesLaws.{sized, state_bytes_equal}
-use Rattle.slot.specs.StateHeld.{state_bytes_held}
+use Rattle.slot.specs.BytesLaws.{sized}
+use Rattle.slot.proofs.BytesLaws.{state_bytes_equal}
+use Rattle.slot.proofs.StateHeld.{state_bytes_held}
 use Rattle.slot.specs.Table.{ReadFrom}
 
 pub read_held :
