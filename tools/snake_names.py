@@ -35,7 +35,8 @@ def lent(text):
 
 
 def spelled(word):
-    return word.replace("-", "_")
+    """In snake case; `getD` is std's `get_or` now, so a law named for it is too."""
+    return word.replace("-", "_").replace("getD", "get_or").replace("get_d", "get_or")
 
 
 def code_and_comment(line, mark):
@@ -71,7 +72,7 @@ def main():
         borrowed = lent(text)
         for line in text.split("\n"):
             code, _ = code_and_comment(line, "--")
-            own |= {w for w in WORD.findall(code) if is_dashed(w) and w not in borrowed}
+            own |= {w for w in WORD.findall(code) if (is_dashed(w) or "getD" in w or "get_d" in w) and w not in borrowed}
     for path in sources + answers:
         own |= {a for a in ALIAS.findall(read(path)) if is_dashed(a)}
     changed = 0

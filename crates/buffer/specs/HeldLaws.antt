@@ -6,7 +6,7 @@ use Rattle.std.proofs.Math.Decide.{dec_lt}
 use Rattle.std.proofs.Math.ListN.{length, replicate, length-append, length-replicate}
 use Rattle.std.proofs.lemmas.List.{get_or-replicate}
 use Rattle.std.proofs.lemmas.Bool.{lt-leb}
-use Rattle.reach.specs.ListLaws.{getD_padded}
+use Rattle.reach.specs.ListLaws.{get_or_padded}
 use Rattle.rules.specs.Limits.{most_pending, mark_unit, entry_size, entries_size}
 use Rattle.rules.specs.State.{Pending, Buffer}
 use Rattle.rules.specs.Slot.{entry_bytes, mark_byte}
@@ -59,7 +59,7 @@ module _ (b : Buffer) (w : Writable b) where
         few = rw is w.fits;
         byte = count_byte b.marked (length l) w.fits;
         size = omega (arith, padding, length-replicate {A = ℕ} (entries_size - length (entry_bytes l)) 0, bytes_number l, w.fits);
-        unused = λ i h. getD_padded (entry_bytes l) (entries_size - length (entry_bytes l)) i 0 (omega (arith, bytes_number l, is));
+        unused = λ i h. get_or_padded (entry_bytes l) (entries_size - length (entry_bytes l)) i 0 (omega (arith, bytes_number l, is));
         lows = subst EntryLows (sym (slots_written l w.fits)) (bytes_lows (padded l));
       }
 
@@ -153,7 +153,7 @@ holds b l m count few size lows e =
             unused =
                 λ i h.
                 ap (λ s. get_or s i 0) bytes
-                ∙ getD_padded (entry_bytes l) (entries_size - length (entry_bytes l)) i 0 (omega (arith, bytes_number l, is, h));
+                ∙ get_or_padded (entry_bytes l) (entries_size - length (entry_bytes l)) i 0 (omega (arith, bytes_number l, is, h));
             lows = lows;
           };
       held = λ i. record { pending = stores i; marked = (ap (leb mark_unit) count ∙ count_mark m (length l) few) i };

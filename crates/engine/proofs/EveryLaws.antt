@@ -7,7 +7,7 @@ use Prim.Native.Nat.{ℕ, ◌+◌, ◌≤◌, ◌<◌}
 use native.Mathlib.Numerals.{add-one}
 use lib.ListN.{length, drop, get_elem?, drop_of_length-le}
 use lib.Seq.{drop-cons}
-use Rattle.reach.specs.ListLaws.{at_below, at_getD}
+use Rattle.reach.specs.ListLaws.{at_below, at_get_or}
 use Rattle.rules.specs.Goal.{every}
 
 module _ {A : Type 0} (f : A → Bool) (l : List A) (i : ℕ) where
@@ -15,7 +15,7 @@ module _ {A : Type 0} (f : A → Bool) (l : List A) (i : ℕ) where
     first_left : drop i l ≡ x ∷ drop (i + 1) l
     first_left =
         let h : i < length l = at_below l i x at in
-        rw (add-one, drop-cons l i x h, at_getD l i x x at)
+        rw (add-one, drop-cons l i x h, at_get_or l i x x at)
 
     pub test_first : {b : Bool} → f x ≡ b → every f (drop i l) ≡ (b && every f (drop (i + 1) l))
     unfolding every

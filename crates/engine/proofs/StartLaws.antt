@@ -7,7 +7,7 @@ use native.Mathlib.Decide.{dec_lt}
 use lib.ListN.{length, get_or, set, replicate, length-append, length-set, length-replicate, get_or-append, get_or-eq_default}
 use lib.Seq.{ext_get_or, get_or-set_same, get_or-set_other}
 use borrow.Author.Count.{below_more}
-use Rattle.reach.specs.ListLaws.{getD_padded}
+use Rattle.reach.specs.ListLaws.{get_or_padded}
 use Rattle.rules.specs.Limits.{most_threads, most_variables, all_registers, registers_size, memory_size}
 use Rattle.rules.specs.State as states
 use Rattle.rules.specs.State.{empty_buffer, with_variable}
@@ -44,7 +44,7 @@ memory_is initial mem few size cells =
 
     padded : (v : ℕ) → Dec (v < length initial) → get_or (initial ++ replicate spare 0) v 0 ≡ get_or initial v 0
     padded v (yes h) = get_or-append initial (replicate spare 0) 0 v h
-    padded v (no h) = getD_padded initial spare v 0 (omega arith) ∙ sym (get_or-eq_default initial 0 (omega arith))
+    padded v (no h) = get_or_padded initial spare v 0 (omega arith) ∙ sym (get_or-eq_default initial 0 (omega arith))
 
 -- the state with another memory
 abbrev with_memory : List ℕ → states.State → states.State

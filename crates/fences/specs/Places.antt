@@ -5,7 +5,7 @@ use Rattle.std.proofs.lemmas.Bool.{false≢true, eqb-false}
 use Rattle.std.proofs.Math.Option.{none}
 use Rattle.std.proofs.Math.ListN.{get_elem?}
 use Rattle.reach.specs.Lists.{◌∈◌}
-use Rattle.reach.specs.ListLaws.{all_get_d, at_below, at_getD, below_at}
+use Rattle.reach.specs.ListLaws.{all_get_or, at_below, at_get_or, below_at}
 use Rattle.bits.specs.Bits.{width, bit_of, Has, Put}
 use Rattle.bits.specs.BitLaws.{bit_of_zero}
 use Rattle.rules.specs.Limits.{longest_thread}
@@ -27,7 +27,7 @@ thread_of bytes t = get_or (job_of bytes).threads t []
 -- a word has a bit for each place that has an instruction
 pub short : (bytes : List ℕ) (t : ℕ) → JobIn (job_of bytes) → length (thread_of bytes t) ≤ width
 short bytes t ok =
-    let most = all_get_d (λ code. length code ≤ longest_thread) (job_of bytes).threads t [] ok.lengths (omega arith) in
+    let most = all_get_or (λ code. length code ≤ longest_thread) (job_of bytes).threads t [] ok.lengths (omega arith) in
     omega arith
 
 -- the answer to a question: yes exactly when it holds
@@ -304,14 +304,14 @@ module _ (code : List Instr) where
 module _ (threads : List (List Instr)) where
   -- an open pair is one of its thread's
   in_thread : (t s l : ℕ) → Open threads t s l → OpenIn (get_or threads t []) s l
-  in_thread t s l o = rw (at_getD threads t o.code [] o.thread_is) o.is_open
+  in_thread t s l o = rw (at_get_or threads t o.code [] o.thread_is) o.is_open
 
   pub least_of_all :
       (t s l : ℕ) → t < length threads → ((n : ℕ) → n < t → NoneIn (get_or threads n [])) → LeastPair (get_or threads t []) s l →
       ChecksTo threads (open_at t s l)
   least_of_all t s l below before p =
       let r = below_at threads t below in (
-        record { code = r.0; thread_is = r.1; is_open = rw (at_getD threads t r.0 [] r.1) at p.is_open },
+        record { code = r.0; thread_is = r.1; is_open = rw (at_get_or threads t r.0 [] r.1) at p.is_open },
         least_open threads t s l (λ n k s' l' o. before n k s' l' (in_thread n s' l' o)) (λ n k l' o. p.stores_before n k l' (in_thread t n l' o))
             (λ n k o. p.loads_before n k (in_thread t s n o)),
       )

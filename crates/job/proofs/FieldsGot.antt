@@ -8,7 +8,7 @@ use native.Mathlib.Omega.{arith}
 use borrow.Author.Tests.{eqb-true}
 use lib.Dec.{eqb}
 use lib.ListN.{length, get_or}
-use Rattle.reach.specs.ListLaws.{at_getD}
+use Rattle.reach.specs.ListLaws.{at_get_or}
 use Rattle.rules.specs.Limits.{first_version, last_version, most_threads, most_variables, most_pending, length_size, head_size, value_size, item_size}
 use Rattle.rules.specs.Job.{Job}
 use Rattle.rules.specs.File.{Read, ◌>>=◌, got, fault, times, byte, field, model_of, capacity_of, flag_of, clause_count_of, thread, clause, initial_value, ended, fields, length_ok, accepted, refused, decoded, decode}
@@ -146,7 +146,7 @@ module _ (bytes : List ℕ) where
           threads = sym (times_length _ _ _ _ _ f.threads);
           vars = sym values.number;
           initial_inside = rw values.number (values.inside f.head.there);
-          initial = λ i m. sym (at_getD j.initial i _ 0 (sym (values.values i (omega (arith, values.number)))));
+          initial = λ i m. sym (at_get_or j.initial i _ 0 (sym (values.values i (omega (arith, values.number)))));
           starts = h;
           code = ap listed f.threads;
           goal = subst (λ at. GoalLaid bytes at j.all_empty j.clauses) end f.goal;

@@ -7,7 +7,7 @@ use borrow.Author.Count.{below_more}
 use lib.ListN.{length, get_or, get_elem?, set, replicate, length-set}
 use lib.Seq.{get_or-set_same, get_or-set_other}
 use Rattle.reach.specs.System.{and_then}
-use Rattle.reach.specs.ListLaws.{getD_padded, below_at, at_getD}
+use Rattle.reach.specs.ListLaws.{get_or_padded, below_at, at_get_or}
 use Rattle.rules.specs.Limits.{most_threads, longest_thread, item_size}
 use Rattle.rules.specs.File.{got, byte, instruction, thread}
 use Rattle.rules.specs.declared.Instr.{Instr}
@@ -73,7 +73,7 @@ module _ (bytes : List ℕ) where
           let i = times_item _ _ _ _ _ threads_got t code.0 code.1 in
           let d : At i.0 ≡ At at = sym i.2 ∙ e in
           let p : i.0 ≡ at = cc in
-          (i.1, rw (at_getD (threads_of bytes) t code.0 [] code.1) (rw p at i.3))
+          (i.1, rw (at_get_or (threads_of bytes) t code.0 [] code.1) (rw p at i.3))
 
       pub thread_laid : ThreadLaid bytes at (get_or (threads_of bytes) t [])
       thread_laid = (thread_got at _ _ there.1).1
@@ -95,7 +95,7 @@ pub record Walked (bytes threads : List ℕ) (at t : ℕ) : Type 0 where
 module _ {bytes : List ℕ} (good : ThreadsGood bytes) where
   pub walked_none : Walked bytes (replicate most_threads 0) (values_end bytes) 0
   unfolding threads_read
-  walked_none = record { come = ap passed (times_none _ _); room = refl; behind = λ i h. absurd (omega arith); absent = λ i h. getD_padded [] most_threads i 0 (omega arith) }
+  walked_none = record { come = ap passed (times_none _ _); room = refl; behind = λ i h. absurd (omega arith); absent = λ i h. get_or_padded [] most_threads i 0 (omega arith) }
 
   module _ {threads : List ℕ} {at t : ℕ} (w : Walked bytes threads at t) where
     pub walked_inside : t < count_in bytes → at < length bytes

@@ -79,14 +79,14 @@ module _ {A : Type 0} where
   all_replicate P zero x h = tt
   all_replicate P (suc n) x h = (h, all_replicate P n x h)
 
-  pub all_get_d : (P : A → Type 0) (l : List A) (i : ℕ) (d : A) → All P l → P d → P (get_or l i d)
-  all_get_d P [] i d h k = k
-  all_get_d P (x ∷ l) zero d h k = h.0
-  all_get_d P (x ∷ l) (suc i) d h k = all_get_d P l i d h.1 k
+  pub all_get_or : (P : A → Type 0) (l : List A) (i : ℕ) (d : A) → All P l → P d → P (get_or l i d)
+  all_get_or P [] i d h k = k
+  all_get_or P (x ∷ l) zero d h k = h.0
+  all_get_or P (x ∷ l) (suc i) d h k = all_get_or P l i d h.1 k
 
-  pub all_by_getD : (P : A → Type 0) (l : List A) (d : A) → ((i : ℕ) → P (get_or l i d)) → All P l
-  all_by_getD P [] d h = tt
-  all_by_getD P (x ∷ l) d h = (h 0, all_by_getD P l d (λ i. h (suc i)))
+  pub all_by_get_or : (P : A → Type 0) (l : List A) (d : A) → ((i : ℕ) → P (get_or l i d)) → All P l
+  all_by_get_or P [] d h = tt
+  all_by_get_or P (x ∷ l) d h = (h 0, all_by_get_or P l d (λ i. h (suc i)))
 
   pub all_set : (P : A → Type 0) (l : List A) (i : ℕ) (y : A) → All P l → P y → All P (set l i y)
   all_set P [] i y h k = tt
@@ -103,10 +103,10 @@ module _ {A : Type 0} where
   at_set P (x ∷ l) (suc i) y d h p (suc k) = at_set (λ n. P (suc n)) l i y d (λ n. h (suc n)) p k
 
   -- past the front of a list whose rest is all d, d is read
-  pub getD_padded : (l : List A) (n i : ℕ) (d : A) → length l ≤ i → get_or (l ++ replicate n d) i d ≡ d
-  getD_padded [] n i d h = all_get_d (λ x. x ≡ d) (replicate n d) i d (all_replicate (λ x. x ≡ d) n d refl) refl
-  getD_padded (x ∷ l) n zero d h = absurd (omega arith)
-  getD_padded (x ∷ l) n (suc i) d h = getD_padded l n i d (omega arith)
+  pub get_or_padded : (l : List A) (n i : ℕ) (d : A) → length l ≤ i → get_or (l ++ replicate n d) i d ≡ d
+  get_or_padded [] n i d h = all_get_or (λ x. x ≡ d) (replicate n d) i d (all_replicate (λ x. x ≡ d) n d refl) refl
+  get_or_padded (x ∷ l) n zero d h = absurd (omega arith)
+  get_or_padded (x ∷ l) n (suc i) d h = get_or_padded l n i d (omega arith)
 
   -- lists that are equal where they are joined, and whose first parts are equally long, are equal part by part
   pub append_equal : (a b c d : List A) → length a ≡ length b → a ++ c ≡ b ++ d → (a ≡ b) × (c ≡ d)
@@ -186,14 +186,14 @@ module _ {A : Type 0} where
   below_at (y ∷ l) zero h = (y, refl)
   below_at (y ∷ l) (suc i) h = below_at l i (omega arith)
 
-  pub at_getD : (l : List A) (i : ℕ) (x d : A) → get_elem? l i ≡ some x → get_or l i d ≡ x
-  at_getD [] i x d e = absurd (at_in [] i x e)
-  at_getD (y ∷ l) zero x d e = cc
-  at_getD (y ∷ l) (suc i) x d e = at_getD l i x d e
+  pub at_get_or : (l : List A) (i : ℕ) (x d : A) → get_elem? l i ≡ some x → get_or l i d ≡ x
+  at_get_or [] i x d e = absurd (at_in [] i x e)
+  at_get_or (y ∷ l) zero x d e = cc
+  at_get_or (y ∷ l) (suc i) x d e = at_get_or l i x d e
 
   -- below the end of a list, the default is not what is read
   pub at_default : (l : List A) (i : ℕ) (d : A) → i < length l → get_elem? l i ≡ some (get_or l i d)
-  at_default l i d h = let x = below_at l i h in x.1 ∙ ap {B = Option A} some (sym (at_getD l i x.0 d x.1))
+  at_default l i d h = let x = below_at l i h in x.1 ∙ ap {B = Option A} some (sym (at_get_or l i x.0 d x.1))
 
   pub take_one_more : (l : List A) (i : ℕ) (x : A) → get_elem? l i ≡ some x → take (suc i) l ≡ take i l ++ (x ∷ [])
   take_one_more [] i x e = absurd (at_in [] i x e)

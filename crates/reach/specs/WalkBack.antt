@@ -7,7 +7,7 @@ use Rattle.std.proofs.Math.Option.{some}
 use Prim.Native.Nat.{ℕ, zero, suc, ◌/◌, ◌%◌, ◌≤◌, ◌<◌}
 use Rattle.std.proofs.Math.ListN.{length, get_or, get_elem?}
 use Rattle.reach.specs.Lists.{◌∈◌}
-use Rattle.reach.specs.ListLaws.{at_in, at_below, map_at, at_getD}
+use Rattle.reach.specs.ListLaws.{at_in, at_below, map_at, at_get_or}
 use Rattle.reach.specs.Searchable.{Searchable}
 use Rattle.reach.specs.OrderLaws.{length_snoc}
 use Rattle.reach.specs.RunLaws.{run_snoc, step_below, Least}
@@ -40,7 +40,7 @@ module _ (E : Searchable) (few : E.bound ≤ 64) (rows : List (Row E.system.Stat
       omega (arith, step_below E b.step f.0 r.state f.2)
 
   link_at : (i : ℕ) (r : Row E.system.State) → get_elem? rows i ≡ some r → get_or ls i 0 ≡ r.from
-  link_at i r e = at_getD ls i r.from 0 (same i r.from (map_at (λ r. r.from) rows i r e))
+  link_at i r e = at_get_or ls i r.from 0 (same i r.from (map_at (λ r. r.from) rows i r e))
 
   pub walk_back_way : (k i : ℕ) (r : Row E.system.State) → get_elem? rows i ≡ some r → length r.way ≡ k → (walk_back ls k i ≡ r.way) × Walkable ls k i
   unfolding walk_back Walkable

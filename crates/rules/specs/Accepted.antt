@@ -5,7 +5,7 @@ use Rattle.std.proofs.Math.Option.{Option, none, some}
 use Prim.Native.Nat.{ℕ, zero, suc, ◌+◌, ◌≤◌, ◌<◌}
 use native.Mathlib.Omega.{arith}
 use Rattle.reach.specs.Lists.{All}
-use Rattle.reach.specs.ListLaws.{all_get_d}
+use Rattle.reach.specs.ListLaws.{all_get_or}
 use Rattle.rules.specs.Limits.{byte_values, longest_thread, width_of}
 use Rattle.rules.specs.Job.{Job}
 use Rattle.rules.specs.Step.{given}
@@ -142,7 +142,7 @@ module _ (bytes : List ℕ) (small : All (λ k. k < byte_values) bytes) where
   -- also past the end, where 0 stands for a byte
   pub byte_in : (at : ℕ) → byte bytes at < byte_values
   unfolding byte
-  byte_in at = all_get_d (λ k. k < byte_values) bytes at 0 small (omega arith)
+  byte_in at = all_get_or (λ k. k < byte_values) bytes at 0 small (omega arith)
 
   -- a value of the file is one of its width
   pub value_in : (w : Width) (at : ℕ) → Value w (value bytes w at)

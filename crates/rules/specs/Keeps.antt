@@ -7,7 +7,7 @@ use Rattle.std.proofs.Math.Option.{some}
 use Rattle.std.proofs.Math.ListN.{length, get_elem?, length-set}
 use Rattle.std.proofs.lemmas.List.{length-replicate}
 use Rattle.reach.specs.Lists.{All}
-use Rattle.reach.specs.ListLaws.{all_at, all_imp, all_append, all_replicate, all_get_d, all_set, at_in, at_below, at_getD, at_set, getD_padded}
+use Rattle.reach.specs.ListLaws.{all_at, all_imp, all_append, all_replicate, all_get_or, all_set, at_in, at_below, at_get_or, at_set, get_or_padded}
 use Rattle.reach.specs.System.{and_then}
 use Rattle.reach.specs.RunLaws.{andThen_some}
 use Rattle.rules.specs.Limits.{most_threads, most_variables, registers_each, all_registers, values, most_pending}
@@ -127,15 +127,15 @@ module _ (j : Job) (ok : JobIn j) where
 module _ (j : Job) (x : State) (w : WellFormed j x) where
   pub register_value : (t r : ℕ) → Value (width j) (register t r x)
   unfolding register
-  register_value t r = all_get_d (Value (width j)) x.registers (registers_each * t + r) 0 w.registers (zero_in (width j))
+  register_value t r = all_get_or (Value (width j)) x.registers (registers_each * t + r) 0 w.registers (zero_in (width j))
 
   pub variable_value : (v : ℕ) → Value (width j) (variable v x)
   unfolding variable
-  variable_value v = all_get_d (Value (width j)) x.memory v 0 w.memory (zero_in (width j))
+  variable_value v = all_get_or (Value (width j)) x.memory v 0 w.memory (zero_in (width j))
 
   pub buffer_in : (t : ℕ) → BufferIn j (buffer t x)
   unfolding buffer
-  buffer_in t = all_get_d (BufferIn j) x.buffers t empty_buffer w.buffers (empty_in j)
+  buffer_in t = all_get_or (BufferIn j) x.buffers t empty_buffer w.buffers (empty_in j)
 
   pub with_place_keeps : (t p : ℕ) → p ≤ length (get_or j.threads t []) → WellFormed j (with_place t p x)
   unfolding place register variable buffer with_place
@@ -243,7 +243,7 @@ pub stands : (j : Job) → JobIn j → (t p : ℕ) (i : Instr) → instruction_a
 unfolding instruction_at
 stands j ok t p i e =
     let r = andThen_some (get_elem? j.threads t) (λ code. get_elem? code p) i e in
-    let code_is = at_getD j.threads t r.0 [] r.1 in
+    let code_is = at_get_or j.threads t r.0 [] r.1 in
     let Fit : List Instr → Instr → Type 0 = λ code. InstrIn (width j) (length j.initial) (length code) in
     let fits = all_at (λ code. All (Fit code) code) j.threads ok.instructions r.0 (at_in j.threads t r.0 r.1) in
     record {
@@ -280,11 +280,11 @@ start_well_formed j ok =
       registers_number = refl;
       memory_number = simp (length-append, length-replicate) (omega arith);
       buffers_number = refl;
-      places = λ t. omega (arith, getD_padded {A = ℕ} [] most_threads t 0 (omega arith));
+      places = λ t. omega (arith, get_or_padded {A = ℕ} [] most_threads t 0 (omega arith));
       registers = all_replicate (Value (width j)) all_registers 0 (zero_in (width j));
-      registers_unused = λ t r h k. getD_padded [] all_registers (registers_each * t + r) 0 (omega arith);
+      registers_unused = λ t r h k. get_or_padded [] all_registers (registers_each * t + r) 0 (omega arith);
       memory = all_append (Value (width j)) j.initial (replicate spare 0) ok.initial (all_replicate (Value (width j)) spare 0 (zero_in (width j)));
-      memory_unused = λ v beyond. getD_padded j.initial spare v 0 beyond;
+      memory_unused = λ v beyond. get_or_padded j.initial spare v 0 beyond;
       buffers = all_replicate (BufferIn j) most_threads empty_buffer (empty_in j);
-      buffers_unused = λ t beyond. getD_padded [] most_threads t empty_buffer (omega arith);
+      buffers_unused = λ t beyond. get_or_padded [] most_threads t empty_buffer (omega arith);
     }

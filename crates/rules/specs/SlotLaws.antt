@@ -6,7 +6,7 @@ use mathlib.Core.List.{List, [], ◌∷◌, ◌++◌, append_assoc}
 use Rattle.std.proofs.Math.ListN.{length, length-append}
 use Rattle.std.proofs.lemmas.List.{length-replicate}
 use Rattle.reach.specs.Lists.{All}
-use Rattle.reach.specs.ListLaws.{all_imp, all_append, all_replicate, all_get_d, append_equal, all_by_getD}
+use Rattle.reach.specs.ListLaws.{all_imp, all_append, all_replicate, all_get_or, append_equal, all_by_get_or}
 use Rattle.rules.specs.Limits.{byte_values, word_size, entry_size, most_pending, group_unit, mark_unit, entries_size, buffer_size, slot_size, longest_thread}
 use Rattle.rules.specs.State.{Pending, Buffer, State, place}
 use Rattle.rules.specs.Job.{Job, width}
@@ -204,7 +204,7 @@ module _ (j : Job) (ok : JobIn j) where
 
   place_value : (x : State) → WellFormed j x → (t : ℕ) → Byte (place t x)
   place_value x w t =
-      let short = all_get_d (λ code. length code ≤ longest_thread) j.threads t [] ok.lengths (omega arith) in
+      let short = all_get_or (λ code. length code ≤ longest_thread) j.threads t [] ok.lengths (omega arith) in
       omega (arith, w.places t)
 
   pub slot_bytes_values : (x : State) → WellFormed j x → All Byte (slot_bytes x)
@@ -212,7 +212,7 @@ module _ (j : Job) (ok : JobIn j) where
   slot_bytes_values x w =
       let registers = word_bytes_values (width j) x.registers w.registers in
       let memory = word_bytes_values (width j) x.memory w.memory in
-      let front = all_append Byte x.places (word_bytes x.registers) (all_by_getD Byte x.places 0 (place_value x w)) registers in
+      let front = all_append Byte x.places (word_bytes x.registers) (all_by_get_or Byte x.places 0 (place_value x w)) registers in
       let cells = all_append Byte (x.places ++ word_bytes x.registers) (word_bytes x.memory) front memory in
       let buffers = buffers_bytes_values x.buffers w.buffers in
       all_append Byte (x.places ++ word_bytes x.registers ++ word_bytes x.memory) (buffers_bytes x.buffers) cells buffers

@@ -3,7 +3,7 @@ use Rattle.std.specs.Prelude.{◌≡◌, refl, ◌⊎◌, List, [], ℕ, ◌<◌
 use Rattle.std.proofs.Common.{ap, ◌∙◌, subst, inl, inr, arith}
 use Rattle.std.proofs.Math.Option.{some}
 use Rattle.std.proofs.Math.ListN.{get_elem?}
-use Rattle.reach.specs.ListLaws.{getD_padded}
+use Rattle.reach.specs.ListLaws.{get_or_padded}
 use Rattle.rules.specs.Limits.{most_threads}
 use Rattle.rules.specs.State.{Pending, Buffer, empty_buffer, State, place, buffer, pending}
 use Rattle.rules.specs.Job.{Job, width, start}
@@ -27,7 +27,7 @@ pub record Calm (x : State) : Type 0 where
 
 pub calm_buffer : {x : State} → Calm x → (t : ℕ) → buffer t x ≡ empty_buffer
 unfolding buffer
-calm_buffer k t = rw k.empty (getD_padded [] most_threads t empty_buffer (omega arith))
+calm_buffer k t = rw k.empty (get_or_padded [] most_threads t empty_buffer (omega arith))
 
 pub calm_pending : {x : State} → Calm x → (t : ℕ) → pending t x ≡ []
 calm_pending k t = ap (λ (b : Buffer). b.pending) (calm_buffer k t)

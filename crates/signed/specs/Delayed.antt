@@ -6,7 +6,7 @@ use Rattle.std.proofs.Math.Option.{some}
 use Rattle.std.proofs.Math.Decide.{ℕ_discrete}
 use Rattle.std.proofs.Math.ListN.{get_elem?}
 use Rattle.reach.specs.Lists.{All}
-use Rattle.reach.specs.ListLaws.{all_get_d, all_by_getD}
+use Rattle.reach.specs.ListLaws.{all_get_or, all_by_get_or}
 use Rattle.reach.specs.System.{run}
 use Rattle.rules.specs.Limits.{most_threads, registers_each}
 use Rattle.rules.specs.State.{Pending, Buffer, empty_buffer, State, place, register, buffer, pending}
@@ -70,7 +70,7 @@ delayed_empty j x y d h =
   where
     each_empty : (t : ℕ) → buffer t y ≡ empty_buffer
     each_empty t =
-        let none : pending t y ≡ [] = all_get_d (λ (b : Buffer). b.pending ≡ []) y.buffers t empty_buffer h refl in
+        let none : pending t y ≡ [] = all_get_or (λ (b : Buffer). b.pending ≡ []) y.buffers t empty_buffer h refl in
         λ i. record { pending = none i; marked = d.unmarked t i }
 
     calm_y : Calm y
@@ -78,7 +78,7 @@ delayed_empty j x y d h =
         record {
           sized = d.sized;
           empty =
-              all_alike empty_buffer y.buffers (all_by_getD (λ (b : Buffer). b ≡ empty_buffer) y.buffers empty_buffer each_empty)
+              all_alike empty_buffer y.buffers (all_by_get_or (λ (b : Buffer). b ≡ empty_buffer) y.buffers empty_buffer each_empty)
               ∙ ap (λ n. replicate n empty_buffer) d.sized.buffers;
         }
 

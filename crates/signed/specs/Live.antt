@@ -3,7 +3,7 @@ use Rattle.std.specs.Prelude.{◌≡◌, refl, Bool, true, false, cond, [], ℕ,
 use Rattle.std.proofs.Common.{inl, arith}
 use Rattle.std.proofs.Math.Option.{some}
 use Rattle.std.proofs.Math.ListN.{get_elem?}
-use Rattle.reach.specs.ListLaws.{at_set, getD_padded}
+use Rattle.reach.specs.ListLaws.{at_set, get_or_padded}
 use Rattle.rules.specs.Limits.{most_threads}
 use Rattle.rules.specs.State.{State, place, register, variable, with_place, with_register, with_variable, with_buffer}
 use Rattle.rules.specs.Job.{Job, start}
@@ -24,7 +24,7 @@ AllLive j x = (t : ℕ) → Live (code j t) (place t x)
 
 pub start_live : (j : Job) → AllLive j (start j)
 unfolding start place
-start_live j t = inl (getD_padded [] most_threads t 0 (omega arith))
+start_live j t = inl (get_or_padded [] most_threads t 0 (omega arith))
 
 compared_kept : (b : Bool) (v k : ℕ) (x : State) → (cond b (with_variable v k x) x).places ≡ x.places
 unfolding with_variable

@@ -7,7 +7,7 @@ use native.Mathlib.Omega.{arith}
 use Rattle.std.proofs.Math.Decide.{dec_lt}
 use Rattle.std.proofs.Math.ListN.{length, get_elem?}
 use borrow.Author.Tests.{lt-ltb, le-ltb}
-use Rattle.reach.specs.ListLaws.{at_getD, at_below}
+use Rattle.reach.specs.ListLaws.{at_get_or, at_below}
 use Rattle.reach.specs.System.{System, run}
 use Rattle.reach.specs.RunLaws.{andThen_some, run_append}
 use Rattle.rules.specs.Limits.{most_threads, most_variables, step_bound}
@@ -34,7 +34,7 @@ pub code_there : (j : Job) (t p : ℕ) (i : Instr) → get_elem? (code j t) p �
 unfolding instruction_at
 code_there j t p i e =
     let r = andThen_some (get_elem? j.threads t) (λ c. get_elem? c p) i (instruction_of_thread j t p ∙ e) in
-    rw (at_getD j.threads t r.0 [] r.1) r.1
+    rw (at_get_or j.threads t r.0 [] r.1) r.1
 
 -- thread t may execute the instruction where it stands, and y is the state after it
 pub record Ran (j : Job) (t : ℕ) (x y : State) : Type 0 where

@@ -1,6 +1,6 @@
 -- `verdict::judge` meets its contract: the promises of the search, of the fence check and of the decision. The job's elements are bytes, by its type.
 use Prim.Native.Nat.{ℕ, ◌<◌}
-use Rattle.reach.specs.ListLaws.{all_by_getD}
+use Rattle.reach.specs.ListLaws.{all_by_get_or}
 use Rattle.rules.specs.Limits.{byte_values}
 use Rattle.together.specs.Board.{Bytes}
 use Rattle.verdict.specs.Released.{with_release}
@@ -8,7 +8,7 @@ use Rattle.verdict.proofs.judge.Goals as goal
 use Rattle.verdict.proofs.judge.Goals.{After-shared_slice_known-1}
 
 small : (c : After-shared_slice_known-1) → Bytes c.args.job.now
-small c = all_by_getD (λ (k : ℕ). k < byte_values) c.args.job.now 0 (λ i. (c.type_inv.job i).fits)
+small c = all_by_get_or (λ (k : ℕ). k < byte_values) c.args.job.now 0 (λ i. (c.type_inv.job i).fits)
 
 pub returns : goal.returns
 returns c =
