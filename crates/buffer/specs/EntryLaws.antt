@@ -1,6 +1,6 @@
 -- Entries of three bytes: bytes by threes are those of their entries, and an entry is read and written by its index.
 use Rattle.std.specs.Prelude.{◌≡◌, refl, List, [], ◌∷◌, ◌++◌, ℕ, zero, suc, ◌+◌, ◌*◌, ◌/◌, ◌%◌, length, get_or, set, take, replicate}
-use Rattle.std.proofs.Common.{sym, ap, ap₂, ◌∙◌, arith}
+use Rattle.std.proofs.Common.{ap, ap₂, arith}
 use Rattle.reach.specs.Lists.{All}
 use Rattle.rules.specs.Limits.{group_unit, entry_size}
 use Rattle.rules.specs.State.{Pending}

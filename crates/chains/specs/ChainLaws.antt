@@ -1,8 +1,8 @@
 -- Along a chain, and the index with one slot more.
-use Rattle.std.specs.Prelude.{◌≡◌, refl, List, ◌++◌, ℕ, zero, suc, ◌+◌, ◌*◌, ◌≤◌, ◌<◌, length, get_or, set, take}
+use Rattle.std.specs.Prelude.{◌≡◌, List, ◌++◌, ℕ, suc, ◌+◌, ◌*◌, ◌≤◌, ◌<◌, length, get_or, set, take}
 use Rattle.std.proofs.Math.Path.{sym, ap}
-use Rattle.std.proofs.Common.{subst, ◌∙◌, append_assoc, arith, mul-suc, mul-le-mul_left, length-set, length-take, length-append, get_or-set_same, get_or-set_other, take-add}
-use Rattle.std.proofs.Math.Decide.{ℕ_discrete, dec_lt}
+use Rattle.std.proofs.Common.{subst, ◌∙◌, append_assoc, arith, mul-suc, mul-le-mul_left, length-set, get_or-set_same, get_or-set_other, take-add}
+use Rattle.std.proofs.Math.Decide.{ℕ_discrete}
 use Rattle.std.proofs.Math.ListN.{drop}
 use Rattle.std.proofs.Math.Seq.{length-take-le, take_at, drop_at, take-take}
 use Rattle.reach.specs.ListLaws.{append_equal}

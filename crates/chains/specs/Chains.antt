@@ -1,7 +1,7 @@
 -- An index over the counted slots of a table: so many chains, and every counted slot is on the chain that its bytes belong to.
 -- First stands, for each chain, the newest slot on it, and then, for each slot, the one before it on its chain; each number is a slot's plus 1, and
 -- 0 is none.
-use Rattle.std.specs.Prelude.{◌≡◌, List, ℕ, zero, suc, ◌+◌, ◌≤◌, ◌<◌, length, get_or, set}
+use Rattle.std.specs.Prelude.{◌≡◌, List, ℕ, suc, ◌+◌, ◌≤◌, ◌<◌, get_or, set}
 use Rattle.lent.specs.Parts.{slot_at}
 use Rattle.chains.specs.Sums.{chain_of}
 

@@ -1,6 +1,6 @@
 -- The chain that bytes belong to: a number that follows from them alone, spread over all chains. No product and no sum on the way has more than
 -- 64 bits: a half of a piece has 32, a weight 26, and there are at most 62 halves.
-use Rattle.std.specs.Prelude.{◌≡◌, refl, List, ℕ, zero, suc, ◌+◌, ◌*◌, ◌/◌, ◌%◌, ◌≤◌, ◌<◌, min, length}
+use Rattle.std.specs.Prelude.{List, ℕ, zero, suc, ◌+◌, ◌*◌, ◌/◌, ◌%◌, ◌≤◌, ◌<◌, min, length}
 use Rattle.std.proofs.Common.{mul-le-mul, mul-le-mul_right, arith}
 use Rattle.span.specs.Pieces.{piece_size, piece_at}
 

@@ -1,17 +1,12 @@
 -- What was read of a thread is what stands there; what a test of a role tells.
 use mathlib.Core.Path.{◌≡◌, sym, ◌∙◌, ap, subst}
 use mathlib.Core.Logic.{inl, inr}
-use mathlib.Core.Bool.{Bool, not}
+use mathlib.Core.Bool.{Bool}
 use mathlib.Core.List.{List}
 use mathlib.Core.Option.{none, some}
 use Prim.Native.Nat.{ℕ, suc, ◌+◌}
 use native.Mathlib.Numerals.{add-one}
-use lib.Dec.{T}
 use lib.ListN.{get_elem?}
-use mir.Val.{has_key}
-use types.Run.{OneOf, miss}
-use denote.Enum.Declared.{tag_of}
-use Rattle.rules.specs.contracts.Role as role
 use Rattle.bits.specs.Bits.{Has, Put}
 use Rattle.rules.specs.Kinds.{control_of}
 use Rattle.rules.specs.Step.{instruction_at}

@@ -1,7 +1,7 @@
 -- The schedule while links are walked back: what is left of the walk, and then what was written.
-use Rattle.std.specs.Prelude.{◌≡◌, refl, List, [], ◌∷◌, ◌++◌, set}
+use Rattle.std.specs.Prelude.{◌≡◌, List, ◌∷◌, ◌++◌, set}
 use Rattle.std.proofs.Math.Path.{sym}
-use Rattle.std.proofs.Common.{◌∙◌, ap, append_assoc, sub-one, get_or-set_same}
+use Rattle.std.proofs.Common.{◌∙◌, get_or-set_same}
 use Prim.Native.Nat.{ℕ, zero, suc, ◌-◌, ◌/◌, ◌%◌, ◌≤◌, ◌<◌}
 use native.Mathlib.Omega.{arith}
 use Rattle.std.proofs.Math.ListN.{length, length-set, drop, get_or}

@@ -1,6 +1,6 @@
 -- What putting a candidate asks and promises.
-use Rattle.std.specs.Prelude.{◌≡◌, refl, true, false, List, ℕ, ◌+◌, ◌*◌, ◌≤◌, ◌<◌, length, set}
-use Rattle.std.proofs.Common.{mul-suc, mul-le-mul_left, add-one, arith}
+use Rattle.std.specs.Prelude.{◌≡◌, refl, false, List, ℕ, ◌+◌, ◌*◌, ◌≤◌, ◌<◌, length, set}
+use Rattle.std.proofs.Common.{mul-le-mul_left, add-one, arith}
 use Rattle.span.specs.Span.{laid}
 use Rattle.chains.specs.Sums.{word_values, chain_of}
 use Rattle.chains.specs.Chains.{Indexed, entered}

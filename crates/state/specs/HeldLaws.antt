@@ -1,6 +1,6 @@
 -- A state's value is as good as the state: written and held undo each other, and values that hold the same state are equal.
 use Rattle.std.specs.Prelude.{◌≡◌, refl, List, [], ◌∷◌, map}
-use Rattle.std.proofs.Common.{ap, ap₂, ◌∙◌, arith}
+use Rattle.std.proofs.Common.{ap₂, ◌∙◌, arith}
 use Rattle.std.proofs.Math.ListN.{length-map}
 use Rattle.reach.specs.Lists.{All}
 use Rattle.reach.specs.ListLaws.{all_imp}

@@ -1,6 +1,6 @@
 -- The decision, by cases of the two answers and of the job's model.
 use Rattle.std.specs.Prelude.{◌≡◌, refl, Bool, true, false, ◌↔◌, List, ℕ, T, get_or}
-use Rattle.std.proofs.Common.{sym, ◌∙◌, ap, subst, arith}
+use Rattle.std.proofs.Common.{sym, ◌∙◌, ap, subst}
 use Rattle.reach.specs.Meaning.{unreachable}
 use Rattle.rules.specs.File.{Decoded, accepted, refused, decode, job_of}
 use Rattle.rules.specs.Fences.{fenced}

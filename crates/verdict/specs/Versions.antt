@@ -3,12 +3,10 @@ use Rattle.std.specs.Prelude.{◌≡◌, refl, ◌↔◌, List, ℕ}
 use Rattle.std.proofs.Common.{sym, ap, subst, ◌∙◌}
 use Rattle.rules.specs.Limits.{second_version}
 use Rattle.rules.specs.Job.{Job}
-use Rattle.rules.specs.File.{Decoded, accepted, refused, decode, job_of}
+use Rattle.rules.specs.File.{Decoded, accepted, refused, decode}
 use Rattle.rules.specs.Accepted.{job_of_accepted}
 use Rattle.rules.specs.Versions.{in_version, re_versioned, not_both}
 use Rattle.lent.specs.Meaning.{Lent}
-use Rattle.search.specs.Meaning as search
-use Rattle.fences.specs.Meaning as fences
 use Rattle.together.specs.Versions.{same_answers}
 use Rattle.verdict.specs.Meaning.{ScAsks, MayRelease, VerdictPromise}
 use Rattle.verdict.specs.declared.Verdict.{Verdict}

@@ -1,7 +1,6 @@
 -- Values and their bytes: each undoes the other, and a value is read and written by its index.
-use Rattle.std.specs.Prelude.{◌≡◌, refl, List, [], ◌∷◌, ℕ, zero, suc, ◌+◌, ◌*◌, ◌/◌, ◌%◌, length, get_or, set}
-use Rattle.std.proofs.Common.{sym, ap, ap₂, ◌∙◌, add-one, arith}
-use Rattle.rules.specs.Limits.{byte_values}
+use Rattle.std.specs.Prelude.{◌≡◌, refl, List, [], ◌∷◌, ℕ, zero, suc, ◌*◌, length, get_or, set}
+use Rattle.std.proofs.Common.{ap, ap₂, add-one, arith}
 use Rattle.rules.specs.Slot.{high, low, word_bytes}
 use Rattle.rules.specs.SlotLaws.{Byte}
 use Rattle.words.specs.Words.{word, words, Lows, word_at, set_word}

@@ -1,7 +1,5 @@
 -- `fences::is_live_store` meets its contract: a store, and one that counts.
 use mathlib.Core.Path.{sym, ◌∙◌}
-use mathlib.Core.List.{[], ◌∷◌}
-use Rattle.rules.specs.declared.Role.TheVariants.{Stores}
 use Rattle.fences.specs.Places.{tells_no, tells_same}
 use Rattle.fences.proofs.is_live_store.Goals as goal
 

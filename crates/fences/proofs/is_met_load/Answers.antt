@@ -1,7 +1,5 @@
 -- `fences::is_met_load` meets its contract: a load, and what was met.
 use mathlib.Core.Path.{sym, ◌∙◌}
-use mathlib.Core.List.{[], ◌∷◌}
-use Rattle.rules.specs.declared.Role.TheVariants.{Loads}
 use Rattle.fences.specs.Places.{tells_no, tells_has, tells_same}
 use Rattle.fences.proofs.is_met_load.Goals as goal
 

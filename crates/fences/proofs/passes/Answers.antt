@@ -1,7 +1,5 @@
 -- `fences::passes` meets its contract: anything, or no fence.
-use mathlib.Core.List.{[], ◌∷◌}
 use Rattle.rules.specs.FenceCheck.{passes_no_fence}
-use Rattle.rules.specs.declared.Role.TheVariants.{Fences}
 use Rattle.fences.specs.Places.{tells_yes, tells_no}
 use Rattle.fences.proofs.passes.Goals as goal
 
