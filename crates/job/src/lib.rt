@@ -8,6 +8,7 @@ use readers::{
 use rules::{HEAD_SIZE, Instr, Model, THREADS};
 
 mod goal; // goal.rt: the readers of the goal
+pub mod accepted;
 pub mod parts; // parts.rt: the parts of an accepted job
 mod threads; // threads.rt: where the threads begin, and how long they are
 

@@ -14,6 +14,7 @@ pub mod MayLaws
 pub mod Fences
 pub mod Same
 pub mod Sound
+pub mod SoundOnce
 pub mod Onward
 pub mod FenceCheck
 pub mod Accepted

@@ -1,16 +1,7 @@
--- What the tables' answers stand for.
-use Rattle.std.proofs.Math.Option.{Option, none, some}
-use Rattle.rules.specs.declared.Instr.{Instr}
-use Rattle.rules.specs.declared.Clause.{Clause}
-use Rattle.tables.specs.declared.InstrRead.{InstrRead}
-use Rattle.tables.specs.declared.InstrRead.TheVariants as InstrReads
-use Rattle.tables.specs.declared.ClauseRead.{ClauseRead}
-use Rattle.tables.specs.declared.ClauseRead.TheVariants as ClauseReads
+-- What an answer of the code stands for.
+use Rattle.std.specs.Prelude.{Option, Some, None}
+use Rattle.std.proofs.Math.Option as maybe
 
-abbrev pub instr_of : InstrRead → Option Instr
-instr_of (InstrReads.Good i) = some i
-instr_of InstrReads.Bad = none
-
-abbrev pub goal_clause_of : ClauseRead → Option Clause
-goal_clause_of (ClauseReads.Good c) = some c
-goal_clause_of ClauseReads.Bad = none
+abbrev pub told : {A : Type 0} → Option A → maybe.Option A
+told (Some a) = maybe.some a
+told None = maybe.none

@@ -5,51 +5,52 @@ use Prim.Native.Nat.{ℕ, ◌+◌, ◌≤◌}
 use native.Mathlib.Omega.{arith}
 use lib.ListN.{get_or-eq_default}
 use Rattle.rules.specs.File.{instruction_of, register_ok, zero_ok, from_second}
+use Rattle.tables.proofs.ToldLaws.{told_given}
 use Rattle.tables.proofs.instruction.Goals as goal
 
 pub returns-in-1 : goal.returns-in-1
 unfolding instruction_of register_ok zero_ok
-returns-in-1 c = rw c.in-1.is c.keep.ensures
+returns-in-1 c = rw (c.in-1.is, c.then_some.ensures) (told_given _ _)
 
 pub returns-in-2 : goal.returns-in-2
 unfolding instruction_of register_ok zero_ok
-returns-in-2 c = rw (c.in-2.is, ← c.width.ensures) c.keep-in-2.ensures
+returns-in-2 c = rw (c.in-2.is, ← c.width.ensures, c.then_some-in-2.ensures) (told_given _ _)
 
 pub returns-in-3 : goal.returns-in-3
 unfolding instruction_of register_ok zero_ok
-returns-in-3 c = rw c.in-3.is c.keep-in-3.ensures
+returns-in-3 c = rw (c.in-3.is, c.then_some-in-3.ensures) (told_given _ _)
 
 pub returns-in-4 : goal.returns-in-4
 unfolding instruction_of register_ok zero_ok
-returns-in-4 c = rw c.in-4.is c.keep-in-4.ensures
+returns-in-4 c = rw (c.in-4.is, c.then_some-in-4.ensures) (told_given _ _)
 
 pub returns-in-5 : goal.returns-in-5
 unfolding instruction_of register_ok zero_ok
-returns-in-5 c = rw c.in-5.is c.keep-in-5.ensures
+returns-in-5 c = rw (c.in-5.is, c.then_some-in-5.ensures) (told_given _ _)
 
 pub returns-in-6 : goal.returns-in-6
 unfolding instruction_of register_ok zero_ok
-returns-in-6 c = rw c.in-6.is c.keep-in-6.ensures
+returns-in-6 c = rw (c.in-6.is, c.then_some-in-6.ensures) (told_given _ _)
 
 pub returns-in-7 : goal.returns-in-7
 unfolding instruction_of register_ok zero_ok
-returns-in-7 c = rw c.in-7.is c.keep-in-7.ensures
+returns-in-7 c = rw (c.in-7.is, c.then_some-in-7.ensures) (told_given _ _)
 
 pub returns-in-8 : goal.returns-in-8
 unfolding instruction_of register_ok zero_ok
-returns-in-8 c = rw c.in-8.is c.keep-in-8.ensures
+returns-in-8 c = rw (c.in-8.is, c.then_some-in-8.ensures) (told_given _ _)
 
 pub returns-in-9 : goal.returns-in-9
 unfolding instruction_of register_ok zero_ok
-returns-in-9 c = rw c.in-9.is c.keep-in-9.ensures
+returns-in-9 c = rw (c.in-9.is, c.then_some-in-9.ensures) (told_given _ _)
 
 pub returns-in-10 : goal.returns-in-10
 unfolding instruction_of register_ok from_second
-returns-in-10 c = rw c.in-10.is c.keep-in-10.ensures
+returns-in-10 c = rw (c.in-10.is, c.then_some-in-10.ensures) (told_given _ _)
 
 pub returns-in-11 : goal.returns-in-11
 unfolding instruction_of zero_ok from_second
-returns-in-11 c = rw c.in-11.is c.keep-in-11.ensures
+returns-in-11 c = rw (c.in-11.is, c.then_some-in-11.ensures) (told_given _ _)
 
 pub returns-in-0 : goal.returns-in-0
 unfolding instruction_of
@@ -68,7 +69,7 @@ beyond version vars n op a b c h = rw (get_or-eq_default _ _ h)
 
 pub returns-in-0-2 : goal.returns-in-0-2
 returns-in-0-2 c =
-    let op = c.args.op in
+    let op = c.args.i.op in
     let r = c.in-0.in-0-own.rest in
     let q = r.0.0.0 in
     let s = q.0.0.0.0 in

@@ -1,12 +1,14 @@
 -- `tables::place_clause` meets its contract: a place past the thread's end is refused, whatever the other bytes are.
 use mathlib.Core.Bool.{and-true, and-false}
 use borrow.Author.Tests.{le-leb, lt-leb}
+use native.Mathlib.Omega.{arith}
 use Rattle.rules.specs.File.{zero_ok}
+use Rattle.tables.proofs.ToldLaws.{told_given}
 use Rattle.tables.proofs.place_clause.Goals as goal
 
-pub returns-then-c-n : goal.returns-then-c-n
+pub returns-then-c-from : goal.returns-then-c-from
 unfolding zero_ok
-returns-then-c-n c = rw (le-leb _ _ c.if-c-n.true, and-true) c.keep_clause.ensures
+returns-then-c-from c = rw (le-leb c.args.c c.args.n (omega (arith, c.from.ensures, c.if-c-from.true)), and-true, c.then_some.ensures) (told_given _ _)
 
-pub returns : goal.returns
-returns c = rw (lt-leb _ _ c.if-c-n.false, and-false)
+pub returns-else-c-from : goal.returns-else-c-from
+returns-else-c-from c = rw (lt-leb c.args.c c.args.n (omega (arith, c.from.ensures, c.if-c-from.false)), and-false)
