@@ -10,9 +10,19 @@ use lib.Dec.{leb}
 use lib.ListN.{length, get_elem?}
 use Rattle.reach.specs.ListLaws.{at_in, below_at}
 use Rattle.rules.specs.File.{Read, got, fault, Reader, read_on, ◌>>=◌, done, times, judged, item}
-use Rattle.readers.specs.declared.Next.{Next}
-use Rattle.readers.specs.declared.Next.TheVariants.{At, Fault}
-use Rattle.readers.specs.Passed.{passed, listed, chain, then}
+use Rattle.readers.specs.Passed.{Next}
+use Rattle.readers.specs.Passed.{At, Fault}
+use Rattle.std.proofs.Common.{rules}
+use Rattle.std.specs.Prelude.{Result, Ok, Err}
+use Rattle.std.specs.Result.{IsErr, IsErrAnd}
+use Rattle.readers.specs.declared.faults.Fault as faults
+use Rattle.readers.specs.Refusals.{number_of}
+use Rattle.readers.specs.Passed.{came_to, passed, listed, chain, then, repeated}
+
+-- a fault that is handed on is the same fault
+pub came_to_err : (x : Result ℕ faults.Fault) (f : faults.Fault) → IsErr x → IsErrAnd x (λ e. e ≡ f) → came_to x ≡ Fault (number_of f.refusal) f.offset
+came_to_err (Ok at) f h k = search rules
+came_to_err (Err e) f h k = rw k
 
 module _ {A : Type 0} (bytes : List ℕ) (size number : ℕ) (value : ℕ → Option A) (at : ℕ) where
   pub item_missing : length bytes < at + size → item bytes size number value at ≡ fault 6 at
@@ -97,6 +107,17 @@ module _ {A B : Type 0} (r : Reader A) (f : A → B) where
       go (got a q) h k = let d : q ≡ next = cc in let g : f a ≡ b = cc in (a, h ∙ ap {B = Read A} (got a) d, g)
       go (fault number offset) h k = absurd (let z : ◌≡◌ {A = ℕ} 0 1 = cc in omega arith)
 
+-- so many items in a row, by how far each comes: i of n are behind, and the rest begins at `at`
+module _ (r : ℕ → Next) (i n at : ℕ) where
+  pub repeated_step : (next : ℕ) → i < n → r at ≡ At next → repeated (n - i) r at ≡ repeated (n - (i + 1)) r next
+  repeated_step next h e = let m : n - i ≡ suc (n - (i + 1)) = omega arith in rw (m, e)
+
+  pub repeated_fault : (number offset : ℕ) → i < n → r at ≡ Fault number offset → repeated (n - i) r at ≡ Fault number offset
+  repeated_fault number offset h e = let m : n - i ≡ suc (n - (i + 1)) = omega arith in rw (m, e)
+
+  pub repeated_end : n ≤ i → repeated (n - i) r at ≡ At at
+  repeated_end h = let m : n - i ≡ 0 = omega arith in rw m
+
 -- the first of k items, and the others
 pub record Split {A : Type 0} (r : Reader A) (k at : ℕ) (l : List A) (next : ℕ) : Type 0 where
   pub head : A
@@ -123,19 +144,16 @@ module _ {A : Type 0} (r : Reader A) where
   unfolding times done
   times_none at = refl
 
-  -- a turn of a loop over the items: i of n are behind, and the rest begins at `at`
-  pub times_step : (i n at next : ℕ) → i < n → passed (r at) ≡ At next →
-      passed (times (n - i) r at) ≡ passed (times (n - (i + 1)) r next)
-  times_step i n at next h e =
-      let m : n - i ≡ suc (n - (i + 1)) = omega arith in rw (m, times_next, e)
-
-  pub times_fault : (i n at number offset : ℕ) → i < n → passed (r at) ≡ Fault number offset →
-      passed (times (n - i) r at) ≡ Fault number offset
-  times_fault i n at number offset h e =
-      let m : n - i ≡ suc (n - (i + 1)) = omega arith in rw (m, times_next, e)
-
-  pub times_end : (i n at : ℕ) → n ≤ i → passed (times (n - i) r at) ≡ At at
-  times_end i n at h = let m : n - i ≡ 0 = omega arith in rw (m, times_none)
+  -- how far all come goes by how far each comes
+  pub times_repeated : (k at : ℕ) → repeated k (λ p. passed (r p)) at ≡ passed (times k r at)
+  times_repeated zero at = rw times_none
+  times_repeated (suc k) at = rw times_next (go (passed (r at)) (times_repeated k))
+    where
+      go :
+          (x : Next) → ((p : ℕ) → repeated k (λ p. passed (r p)) p ≡ passed (times k r p)) →
+          chain x (repeated k (λ p. passed (r p))) ≡ chain x (λ p. passed (times k r p))
+      go (At p) h = h p
+      go (Fault number offset) h = refl
 
   -- the last item after all the others
   pub times_last : (k at : ℕ) → passed (times (suc k) r at) ≡ chain (passed (times k r at)) (λ p. passed (r p))

@@ -1,16 +1,14 @@
 -- Where the fields of the head stand, and what the readers' answers are in the definitions of the file.
-use Rattle.std.specs.Prelude.{◌≡◌, List, [], ℕ, ◌+◌, get_or}
-use Rattle.std.proofs.Math.Option.{Option, none, some}
+use Rattle.std.specs.Prelude.{◌≡◌, List, [], ℕ, zero, suc, ◌+◌, ◌^◌, ◌<◌, get_or, Result, Ok, Err}
+use Rattle.std.proofs.Math.Option.{Option}
 use Rattle.rules.specs.Limits.{length_size, width_of}
 use Rattle.rules.specs.File.{Read, got, fault, model_of, value, instruction_of}
 use Rattle.rules.specs.declared.Width.{Width}
 use Rattle.rules.specs.declared.Instr.{Instr}
 use Rattle.rules.specs.declared.Model.{Model}
-use Rattle.readers.specs.declared.Item.{Item}
-use Rattle.readers.specs.declared.ModelRead.{ModelRead}
-use Rattle.readers.specs.declared.ModelRead.TheVariants as ModelReads
-use Rattle.readers.specs.declared.Next.{Next}
-use Rattle.readers.specs.declared.Next.TheVariants.{At, Fault}
+use Rattle.tables.specs.declared.Item.{Item}
+use Rattle.readers.specs.declared.faults.Fault as faults
+use Rattle.readers.specs.Refusals.{number_of}
 
 -- "Length first, big-endian, then one version byte", and then "model, C, T, V", a byte each
 abbrev pub version_at : ℕ
@@ -38,11 +36,6 @@ count_in bytes = get_or bytes threads_at 0
 abbrev pub vars_in : List ℕ → ℕ
 vars_in bytes = get_or bytes variables_at 0
 
--- the model, if the byte names one
-abbrev pub model_read : ModelRead → Option Model
-model_read (ModelReads.Names m) = some m
-model_read ModelReads.NamesNone = none
-
 abbrev pub model_in : List ℕ → Option Model
 model_in bytes = model_of (get_or bytes model_at 0)
 
@@ -57,6 +50,16 @@ pub record ItemAt (bytes : List ℕ) (w : Width) (at : ℕ) (i : Item) : Type 0 
 abbrev pub instruction_in_bytes : List ℕ → (version vars n at : ℕ) → Option Instr
 instruction_in_bytes bytes version vars n at =
     instruction_of version vars n (get_or bytes at 0) (get_or bytes (at + 1) 0) (get_or bytes (at + 2) 0) (value bytes (width_of version) (at + 3))
+
+-- where reading has come to: an offset, or the first fault's number and offset
+pub data Next : Type 0 where
+  At : ℕ → Next
+  Fault : (number offset : ℕ) → Next
+
+-- what a reader in code answers
+abbrev pub came_to : Result ℕ faults.Fault → Next
+came_to (Ok at) = At at
+came_to (Err f) = Fault (number_of f.refusal) f.offset
 
 -- where a reader has come to, its value forgotten
 abbrev pub passed : {A : Type 0} → Read A → Next
@@ -77,3 +80,12 @@ then (Fault number offset) b = Fault number offset
 abbrev pub chain : Next → (ℕ → Next) → Next
 chain (At next) f = f next
 chain (Fault number offset) f = Fault number offset
+
+-- a reader in code, by what a call of it may answer, comes where r does
+abbrev pub Reads : (ℕ → Result ℕ faults.Fault → Type 0) → (ℕ → Next) → Type 0
+Reads post r = (at : ℕ) (x : Result ℕ faults.Fault) → at < 2 ^ 64 → post at x → came_to x ≡ r at
+
+-- so many items, each from where the one before it ended
+abbrev pub repeated : ℕ → (ℕ → Next) → ℕ → Next
+repeated zero r at = At at
+repeated (suc k) r at = chain (r at) (repeated k r)

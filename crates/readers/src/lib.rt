@@ -1,39 +1,22 @@
 // The readers of the job file, up to the end of its threads, each from an offset: where the next item begins, or the first fault.
 #![tactic(auto)]
 
-ghost use Rattle.std.specs.Prelude.{◌≡◌, ◌+◌, ◌≤◌, ◌<◌, leb, length};
-ghost use Rattle.rules.specs.Limits.{byte_values, width_of, value_size, item_size, longest_file};
+ghost use Rattle.std.specs.Prelude.{◌≡◌, ℕ, ◌+◌, ◌≤◌, leb, length};
+ghost use Rattle.rules.specs.Limits.{width_of, value_size, item_size, longest_file};
 ghost use Rattle.rules.specs.File as file;
-ghost use Rattle.tables.specs.Told.{instr_of};
-ghost use Rattle.readers.specs.Passed.{ItemAt, capacity_at, model_read, passed, then, instruction_in_bytes};
+ghost use Rattle.tables.specs.Told.{told};
+ghost use Rattle.readers.specs.Refusals.{number_of};
+ghost use Rattle.readers.specs.Passed.{Next, came_to, Reads, repeated, ItemAt, capacity_at, passed, instruction_in_bytes};
 ghost use Rattle.readers.specs.Stages.{length_stage, capacity_stage, head_stage};
 
+pub mod faults; // the refusals, and where they are given
+
+use faults::{Fault, Refusal};
 use rules::{
-    BYTE_VALUES, FIRST_VERSION, HEAD_SIZE, LAST_VERSION, LENGTH_SIZE, LONGEST_THREAD, MOST_CLAUSES,
+    FIRST_VERSION, HEAD_SIZE, Instr, LAST_VERSION, LENGTH_SIZE, LONGEST_THREAD, MOST_CLAUSES,
     MOST_PENDING, MOST_THREADS, MOST_VARIABLES, Model, SHORTEST_FILE, THREADS, VARIABLES, Width,
 };
-use tables::InstrRead;
-
-// The refusals of 01, by number; the search has one more.
-
-// "fewer than 3 bytes, more than 597, or length wrong"; request 2: "the longest file becomes 1,109 bytes"; request 10: "1,389 bytes where the version
-// byte is 3"
-pub const LENGTH_WRONG: u8 = 1;
-
-// "version not 1"; request 10: "refusal 2 now means none of the three"
-pub const VERSION_WRONG: u8 = 2;
-
-// "model, C, T or V out of range"
-pub const HEAD_OUT_OF_RANGE: u8 = 3;
-
-// "n above 32 (offset of n), or an instruction with a bad op, operand or zero byte"; request 2: "n = 65 is refusal 4"
-pub const THREAD_BAD: u8 = 4;
-
-// "flag not 0 or 1, K above 16, or a bad clause"; request 8: "K = 0 is refusal 5"
-pub const GOAL_BAD: u8 = 5;
-
-// "a field, instruction or clause isn't wholly there, or bytes are left over"
-pub const NOT_WHOLE: u8 = 6;
+use tables::Item;
 
 // Where the fields of the head stand, a byte each: "Length first, big-endian, then one version byte", then "model, C, T, V".
 pub const VERSION_AT: usize = LENGTH_SIZE;
@@ -50,35 +33,6 @@ pub const VARIABLES_AT: usize = THREADS_AT + 1;
 pub const LAST_MODEL: u8 = 2;
 
 pub const LAST_FLAG: u8 = 1;
-
-// "Instructions are four bytes: op, a, b, c", and so are clauses; in version 3 "op, a, b, then k of two bytes".
-#[derive(Clone, Copy)]
-pub struct Item {
-    pub op: u8,
-    pub a: u8,
-    pub b: u8,
-    pub c: u16,
-}
-
-// Reading has come to an offset, or to the first fault: its number and offset.
-#[derive(Clone, Copy)]
-pub enum Next {
-    At(usize),
-    Fault(u8, usize),
-}
-
-// What a byte is as a model: one that names none is refused, and nothing stands for it.
-#[derive(Clone, Copy)]
-pub enum ModelRead {
-    Names(Model),
-    NamesNone,
-}
-
-pub fn wide(x: u8) -> usize
-    ensures { (result ≡ x) × (result < byte_values) }
-{
-    x as usize
-}
 
 // The bytes of a value.
 pub fn value_size(w: Width) -> usize
@@ -119,95 +73,95 @@ pub fn value(job: &[u8], w: Width, at: usize) -> u16
 }
 
 // The length field, which counts the bytes behind it.
-pub fn length_field(job: &[u8]) -> Next
-    ensures { result ≡ length_stage job.now }
+pub fn length_field(job: &[u8]) -> Result<usize, Fault>
+    ensures { came_to result ≡ length_stage job.now }
 {
     if job.len() < SHORTEST_FILE {
-        return Next::Fault(LENGTH_WRONG, 0);
+        return Err(Refusal::LengthWrong.at(0));
     }
     if longest_file(tables::width(job[VERSION_AT])) < job.len() {
-        return Next::Fault(LENGTH_WRONG, 0);
+        return Err(Refusal::LengthWrong.at(0));
     }
-    let following = wide(job[0]) * BYTE_VALUES + wide(job[1]);
-    let size = following + LENGTH_SIZE;
-    if size == job.len() {
-        Next::At(VERSION_AT)
+    let following = usize::from(words::word(job[0], job[1]));
+    if following + LENGTH_SIZE == job.len() {
+        Ok(VERSION_AT)
     } else {
-        Next::Fault(LENGTH_WRONG, 0)
+        Err(Refusal::LengthWrong.at(0))
     }
 }
 
-// A field is one byte from low to high; `number` is its refusal.
-pub fn field(job: &[u8], at: usize, number: u8, low: u8, high: u8) -> Next
-    ensures { result ≡ passed (file.field job.now number (file.in_range low high) at) }
+// A field is one byte from low to high, else it is refused.
+pub fn field(job: &[u8], at: usize, refusal: Refusal, low: u8, high: u8) -> Result<usize, Fault>
+    ensures { came_to result ≡ passed (file.field job.now (number_of refusal) (file.in_range low high) at) }
 {
     if job.len() <= at {
-        return Next::Fault(NOT_WHOLE, at);
+        return Err(Refusal::NotWhole.at(at));
     }
     let k = job[at];
-    let next = at + 1;
     if (low <= k) & (k <= high) {
-        Next::At(next)
+        Ok(at + 1)
     } else {
-        Next::Fault(number, at)
-    }
-}
-
-// The first fault wins.
-pub fn first(a: Next, b: Next) -> Next
-    ensures { result ≡ then a b }
-{
-    match a {
-        Next::At(_) => b,
-        Next::Fault(number, offset) => Next::Fault(number, offset),
+        Err(refusal.at(at))
     }
 }
 
 // C under a model.
-fn capacity_under(job: &[u8], m: Model) -> Next
-    ensures { result ≡ passed (file.field job.now 3 (file.capacity_of m) capacity_at) }
+fn capacity_under(job: &[u8], m: Model) -> Result<usize, Fault>
+    ensures { came_to result ≡ passed (file.field job.now 3 (file.capacity_of m) capacity_at) }
 {
     match m {
-        Model::Sc => field(job, CAPACITY_AT, HEAD_OUT_OF_RANGE, 0, 0),
-        Model::Tso => field(job, CAPACITY_AT, HEAD_OUT_OF_RANGE, 1, MOST_PENDING),
-        Model::Pso => field(job, CAPACITY_AT, HEAD_OUT_OF_RANGE, 1, MOST_PENDING),
+        Model::Sc => field(job, CAPACITY_AT, Refusal::HeadOutOfRange, 0, 0),
+        Model::Tso | Model::Pso => {
+            field(job, CAPACITY_AT, Refusal::HeadOutOfRange, 1, MOST_PENDING)
+        }
     }
 }
 
 // C, whose range goes by the model before it.
-fn capacity(job: &[u8]) -> Next
-    ensures { result ≡ capacity_stage job.now }
+fn capacity(job: &[u8]) -> Result<usize, Fault>
+    ensures { came_to result ≡ capacity_stage job.now }
 {
     if job.len() <= MODEL_AT {
-        return Next::Fault(NOT_WHOLE, CAPACITY_AT);
+        return Err(Refusal::NotWhole.at(CAPACITY_AT));
     }
     match model(job[MODEL_AT]) {
-        ModelRead::Names(m) => capacity_under(job, m),
-        ModelRead::NamesNone => Next::Fault(HEAD_OUT_OF_RANGE, MODEL_AT),
+        Some(m) => capacity_under(job, m),
+        None => Err(Refusal::HeadOutOfRange.at(MODEL_AT)),
     }
 }
 
 // Version, model, C, T and V.
-pub fn head_fields(job: &[u8]) -> Next
-    ensures { result ≡ head_stage job.now }
+pub fn head_fields(job: &[u8]) -> Result<usize, Fault>
+    ensures { came_to result ≡ head_stage job.now }
 {
-    let version = field(job, VERSION_AT, VERSION_WRONG, FIRST_VERSION, LAST_VERSION);
-    let model = field(job, MODEL_AT, HEAD_OUT_OF_RANGE, 0, LAST_MODEL);
-    let pending = capacity(job);
-    let threads = field(job, THREADS_AT, HEAD_OUT_OF_RANGE, 1, MOST_THREADS);
-    let vars = field(job, VARIABLES_AT, HEAD_OUT_OF_RANGE, 1, MOST_VARIABLES);
-    first(version, first(model, first(pending, first(threads, vars))))
+    field(
+        job,
+        VERSION_AT,
+        Refusal::VersionWrong,
+        FIRST_VERSION,
+        LAST_VERSION,
+    )?;
+    field(job, MODEL_AT, Refusal::HeadOutOfRange, 0, LAST_MODEL)?;
+    capacity(job)?;
+    field(job, THREADS_AT, Refusal::HeadOutOfRange, 1, MOST_THREADS)?;
+    field(
+        job,
+        VARIABLES_AT,
+        Refusal::HeadOutOfRange,
+        1,
+        MOST_VARIABLES,
+    )
 }
 
-// The model that a byte names.
-pub fn model(k: u8) -> ModelRead
-    ensures { model_read result ≡ file.model_of k }
+// The model that a byte names, if it names one.
+pub fn model(k: u8) -> Option<Model>
+    ensures { told result ≡ file.model_of k }
 {
     match k {
-        0 => ModelRead::Names(Model::Sc),
-        1 => ModelRead::Names(Model::Tso),
-        2 => ModelRead::Names(Model::Pso),
-        3..=255 => ModelRead::NamesNone,
+        0 => Some(Model::Sc),
+        1 => Some(Model::Tso),
+        2 => Some(Model::Pso),
+        3..=255 => None,
     }
 }
 
@@ -225,86 +179,61 @@ pub fn item_at(job: &[u8], w: Width, at: usize) -> Item
     }
 }
 
-// The bytes from `at` as an instruction.
-pub fn instruction_from(job: &[u8], version: u8, vars: u8, n: u8, at: usize) -> InstrRead
+// The bytes from `at` as an instruction, if they are one.
+pub fn instruction_from(job: &[u8], version: u8, vars: u8, n: u8, at: usize) -> Option<Instr>
     requires { at + item_size (width_of version) ≤ length job.now }
-    ensures { instr_of result ≡ instruction_in_bytes job.now version vars n at }
+    ensures { told result ≡ instruction_in_bytes job.now version vars n at }
 {
-    let i = item_at(job, tables::width(version), at);
-    tables::instruction(version, vars, n, i.op, i.a, i.b, i.c)
+    tables::instruction(version, vars, n, item_at(job, tables::width(version), at))
 }
 
 // Whether so many bytes are there from `at`.
 pub fn is_there(job: &[u8], at: usize, size: usize) -> bool
     ensures { result ≡ leb (at + size) (length job.now) }
 {
-    if job.len() < size {
-        return false;
-    }
-    if job.len() - size < at {
-        return false;
-    }
-    true
+    size <= job.len() && at <= job.len() - size
 }
 
-fn instruction(job: &[u8], version: u8, vars: u8, n: u8, at: usize) -> Next
-    ensures { result ≡ passed (file.instruction job.now version vars n at) }
+fn instruction(job: &[u8], version: u8, vars: u8, n: u8, at: usize) -> Result<usize, Fault>
+    ensures { came_to result ≡ passed (file.instruction job.now version vars n at) }
 {
     let size = item_size(tables::width(version));
-    if is_there(job, at, size) {
-        let next = at + size;
-        match instruction_from(job, version, vars, n, at) {
-            InstrRead::Good(_) => Next::At(next),
-            InstrRead::Bad => Next::Fault(THREAD_BAD, at),
-        }
-    } else {
-        Next::Fault(NOT_WHOLE, at)
+    if !is_there(job, at, size) {
+        return Err(Refusal::NotWhole.at(at));
+    }
+    match instruction_from(job, version, vars, n, at) {
+        Some(_) => Ok(at + size),
+        None => Err(Refusal::ThreadBad.at(at)),
     }
 }
 
-fn instructions(job: &[u8], version: u8, vars: u8, n: u8, start: usize) -> Next
-    ensures { result ≡ passed (file.times n (file.instruction job.now version vars n) start) }
+// So many items, each from where the one before it ended, up to the first fault.
+pub fn times<F: Fn(usize) -> Result<usize, Fault>>(
+    count: u8,
+    start: usize,
+    item: F,
+) -> Result<usize, Fault>
+    requires { F.IsAlwaysCallable item }
+    ensures { (r : ℕ → Next) → Reads (F.post item) r → came_to result ≡ repeated count r start }
 {
     let mut at = start;
-    let mut i: u8 = 0;
-    while i < n {
-        match instruction(job, version, vars, n, at) {
-            Next::At(next) => {
-                at = next;
-            }
-            Next::Fault(number, offset) => {
-                return Next::Fault(number, offset);
-            }
-        }
-        i += 1;
+    'items: for _ in 0..count {
+        at = item(at)?;
     }
-    Next::At(at)
+    Ok(at)
 }
 
-fn thread(job: &[u8], version: u8, vars: u8, at: usize) -> Next
-    ensures { result ≡ passed (file.thread job.now version vars at) }
+// n, and then as many instructions.
+fn thread(job: &[u8], version: u8, vars: u8, at: usize) -> Result<usize, Fault>
+    ensures { came_to result ≡ passed (file.thread job.now version vars at) }
 {
-    match field(job, at, THREAD_BAD, 0, LONGEST_THREAD) {
-        Next::At(next) => instructions(job, version, vars, job[at], next),
-        Next::Fault(number, offset) => Next::Fault(number, offset),
-    }
+    let next = field(job, at, Refusal::ThreadBad, 0, LONGEST_THREAD)?;
+    let n = job[at];
+    times(n, next, |at| instruction(job, version, vars, n, at))
 }
 
-pub fn threads(job: &[u8], version: u8, vars: u8, count: u8, start: usize) -> Next
-    ensures { result ≡ passed (file.times count (file.thread job.now version vars) start) }
+pub fn threads(job: &[u8], version: u8, vars: u8, count: u8, start: usize) -> Result<usize, Fault>
+    ensures { came_to result ≡ passed (file.times count (file.thread job.now version vars) start) }
 {
-    let mut at = start;
-    let mut t: u8 = 0;
-    while t < count {
-        match thread(job, version, vars, at) {
-            Next::At(next) => {
-                at = next;
-            }
-            Next::Fault(number, offset) => {
-                return Next::Fault(number, offset);
-            }
-        }
-        t += 1;
-    }
-    Next::At(at)
+    times(count, start, |at| thread(job, version, vars, at))
 }

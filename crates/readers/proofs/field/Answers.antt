@@ -4,10 +4,10 @@ use Rattle.readers.proofs.Fields.{field_missing, field_there}
 use Rattle.readers.proofs.field.Goals as goal
 
 pub returns-then-job-at : goal.returns-then-job-at
-returns-then-job-at c = sym (field_missing _ _ _ _ c.if-job-at.true)
+returns-then-job-at c = rw c.at.ensures (sym (field_missing _ _ _ _ c.if-job-at.true))
 
 pub returns-then-low-k : goal.returns-then-low-k
 returns-then-low-k c = rw (field_there _ _ _ _ _ c.if-job-at.false, c.if-low-k.true)
 
 pub returns-else-low-k : goal.returns-else-low-k
-returns-else-low-k c = rw (field_there _ _ _ _ _ c.if-job-at.false, c.if-low-k.false)
+returns-else-low-k c = rw (field_there _ _ _ _ _ c.if-job-at.false, c.if-low-k.false, c.at-else-low-k.ensures)

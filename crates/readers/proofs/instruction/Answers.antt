@@ -7,40 +7,42 @@ use borrow.Author.Tests.{leb-true, leb-false}
 use lib.ListN.{length}
 use Rattle.rules.specs.Limits.{width_of, item_size}
 use Rattle.rules.specs.File.{instruction, byte, judged}
-use Rattle.tables.specs.Told.{instr_of}
+use Rattle.tables.specs.Told.{told}
 use Rattle.readers.specs.Passed.{passed}
 use Rattle.readers.proofs.Readers.{item_judged, item_missing}
 use Rattle.readers.proofs.instruction.Goals as goal
-use Rattle.readers.proofs.instruction.Goals.{After-is_there, Then-is_there}
+use Rattle.readers.proofs.instruction.Goals.{After-is_there, Else-not-is_there}
 
 -- the bytes asked for are those of an item
 asked : (c : After-is_there) → c.item_size-size.result ≡ item_size (width_of c.args.version)
 asked c = c.item_size-size.ensures ∙ ap item_size c.width.ensures
 
 there :
-    (c : Then-is_there) → c.args.at + item_size (width_of c.args.version) ≤ length c.args.job.now
-there c = rw (← (c.item_size-size.ensures ∙ ap item_size c.width.ensures)) (leb-true _ _ (sym c.is_there.ensures ∙ c.if-is_there.true))
+    (c : Else-not-is_there) → c.args.at + item_size (width_of c.args.version) ≤ length c.args.job.now
+there c = rw (← (c.item_size-size.ensures ∙ ap item_size c.width.ensures)) (leb-true _ _ (sym c.is_there.ensures ∙ c.if-not-is_there.false))
 
-pub overflow_add-next : goal.overflow_add-next
-overflow_add-next c = let h = there c in omega (arith, asked (goal.at.overflow_add-next c).After-is_there)
+pub overflow_add-result : goal.overflow_add-result
+overflow_add-result c = let h = there (goal.at.overflow_add-result c).Else-not-is_there in omega (arith, asked (goal.at.overflow_add-result c).After-is_there)
 
 pub instruction_from-requires : goal.instruction_from-requires
 instruction_from-requires c = there c
 
-pub returns-in-Good : goal.returns-in-Good
+pub returns-in-Some : goal.returns-in-Some
 unfolding instruction byte judged
-returns-in-Good c =
-    rw (asked (goal.at.returns-in-Good c).After-is_there)
-    (item_judged _ _ 4 _ _ (some _) (there (goal.at.returns-in-Good c).Then-is_there)
-    (sym (ap instr_of c.in-Good.is) ∙ c.instruction_from.ensures))
+returns-in-Some c =
+    rw (asked (goal.at.returns-in-Some c).After-is_there)
+    (item_judged _ _ 4 _ _ (some _) (there (goal.at.returns-in-Some c).Else-not-is_there)
+    (sym (ap told c.in-Some.is) ∙ c.instruction_from.ensures))
 
-pub returns-in-Bad : goal.returns-in-Bad
+pub returns-in-None : goal.returns-in-None
 unfolding instruction byte judged
-returns-in-Bad c =
-    item_judged _ _ 4 _ _ none (there (goal.at.returns-in-Bad c).Then-is_there)
-    (sym (ap instr_of c.in-Bad.is) ∙ c.instruction_from.ensures)
+returns-in-None c =
+    rw c.at-in-None.ensures
+    (item_judged _ _ 4 _ _ none (there (goal.at.returns-in-None c).Else-not-is_there)
+    (sym (ap told c.in-None.is) ∙ c.instruction_from.ensures))
 
-pub returns-else-is_there : goal.returns-else-is_there
+pub returns-then-not-is_there : goal.returns-then-not-is_there
 unfolding instruction
-returns-else-is_there c =
-    sym (ap passed (item_missing _ _ 4 _ _ (rw (← (asked (goal.at.returns-else-is_there c).After-is_there)) (leb-false _ _ (sym c.is_there.ensures ∙ c.if-is_there.false)))))
+returns-then-not-is_there c =
+    rw c.at.ensures
+    (sym (ap passed (item_missing _ _ 4 _ _ (rw (← (asked (goal.at.returns-then-not-is_there c).After-is_there)) (leb-false _ _ (sym c.is_there.ensures ∙ c.if-not-is_there.true))))))

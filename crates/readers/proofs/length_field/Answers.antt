@@ -10,7 +10,7 @@ use Rattle.readers.proofs.length_field.Goals.{After-longest_file}
 
 pub returns-then-job-lt-SHORTEST_FILE : goal.returns-then-job-lt-SHORTEST_FILE
 unfolding length_stage length_ok
-returns-then-job-lt-SHORTEST_FILE c = rw (lt-leb _ _ c.if-job-lt-SHORTEST_FILE.true)
+returns-then-job-lt-SHORTEST_FILE c = rw (c.at.ensures, lt-leb _ _ c.if-job-lt-SHORTEST_FILE.true)
 
 -- the limit is that of the version's width
 limit :
@@ -21,14 +21,15 @@ limit c = c.longest_file.ensures ∙ ap longest_file c.width.ensures
 
 pub returns-then-longest_file-job : goal.returns-then-longest_file-job
 unfolding length_stage length_ok
-returns-then-longest_file-job c = rw (le-leb _ _ c.if-job-lt-SHORTEST_FILE.false, ← (limit (goal.at.returns-then-longest_file-job c).After-longest_file), lt-leb _ _ c.if-longest_file-job.true)
+returns-then-longest_file-job c =
+    rw (c.at-then-longest_file-job.ensures, le-leb _ _ c.if-job-lt-SHORTEST_FILE.false, ← (limit (goal.at.returns-then-longest_file-job c).After-longest_file), lt-leb _ _ c.if-longest_file-job.true)
 
-pub returns-then-size-job : goal.returns-then-size-job
+pub returns-then-following-job : goal.returns-then-following-job
 unfolding length_stage length_ok byte
-returns-then-size-job c =
-    rw (le-leb _ _ c.if-job-lt-SHORTEST_FILE.false, ← (limit (goal.at.returns-then-size-job c).After-longest_file), le-leb _ _ c.if-longest_file-job.false, ← c.wide.ensures.0, ← c.wide-2.ensures.0, eq-eqb _ _ c.if-size-job.true)
+returns-then-following-job c =
+    rw (le-leb _ _ c.if-job-lt-SHORTEST_FILE.false, ← (limit (goal.at.returns-then-following-job c).After-longest_file), le-leb _ _ c.if-longest_file-job.false, ← c.word.ensures, ← c.from-following.ensures, eq-eqb _ _ c.if-following-job.true)
 
-pub returns-else-size-job : goal.returns-else-size-job
+pub returns-else-following-job : goal.returns-else-following-job
 unfolding length_stage length_ok byte
-returns-else-size-job c =
-    rw (le-leb _ _ c.if-job-lt-SHORTEST_FILE.false, ← (limit (goal.at.returns-else-size-job c).After-longest_file), le-leb _ _ c.if-longest_file-job.false, ← c.wide.ensures.0, ← c.wide-2.ensures.0, ne_eqb _ _ c.if-size-job.false)
+returns-else-following-job c =
+    rw (c.at-else-following-job.ensures, le-leb _ _ c.if-job-lt-SHORTEST_FILE.false, ← (limit (goal.at.returns-else-following-job c).After-longest_file), le-leb _ _ c.if-longest_file-job.false, ← c.word.ensures, ← c.from-following.ensures, ne_eqb _ _ c.if-following-job.false)

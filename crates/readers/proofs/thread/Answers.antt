@@ -1,13 +1,17 @@
 -- `readers::thread` meets its contract: n is the byte at `at`, and then as many instructions.
+use Rattle.std.proofs.Common.{rules}
 use mathlib.Core.Path.{sym, ◌∙◌}
+use Rattle.rules.specs.File.{instruction}
+use Rattle.readers.proofs.Readers.{came_to_err, times_repeated}
 use Rattle.readers.proofs.Fields.{field_passed, thread_passed}
 use Rattle.readers.proofs.thread.Goals as goal
 
 pub bounds-job-at : goal.bounds-job-at
-bounds-job-at c = field_passed _ _ _ _ _ (sym c.field.ensures ∙ c.in-At.is)
+bounds-job-at c = field_passed _ _ _ _ _ (sym c.in_ok-next.ensures)
 
-pub returns-in-At : goal.returns-in-At
-returns-in-At c = rw (thread_passed _ _ _ _, ← c.field.ensures, c.in-At.is) c.instructions.ensures
+pub returns-in_err-next : goal.returns-in_err-next
+returns-in_err-next c =
+    let e = c.from_residual.ensures in came_to_err _ _ e.0 e.1 ∙ rw (thread_passed _ _ _ _, ← c.in_err-next.ensures)
 
-pub returns-in-Fault : goal.returns-in-Fault
-returns-in-Fault c = rw (thread_passed _ _ _ _, ← c.field.ensures, c.in-Fault.is)
+pub returns : goal.returns
+returns c = rw (thread_passed _ _ _ _, ← c.in_ok-next.ensures) (c.times.ensures _ (λ at x fits called. search rules) ∙ times_repeated (instruction c.args.job.now c.args.version c.args.vars _) _ _)

@@ -1,21 +1,9 @@
-use mathlib.Core.Path.{sym, ◌∙◌}
-use native.Mathlib.Omega.{arith}
-use native.Mathlib.Nat.{sub-zero}
-use Rattle.readers.proofs.Readers.{times_step, times_fault, times_end}
+-- `readers::threads` meets its contract: as many threads, one after another.
+use Rattle.std.proofs.Common.{rules}
+use mathlib.Core.Path.{◌∙◌}
+use Rattle.rules.specs.File.{thread}
+use Rattle.readers.proofs.Readers.{times_repeated}
 use Rattle.readers.proofs.threads.Goals as goal
 
-pub loop-t-init : goal.loop-t-init
-loop-t-init c = (omega arith, rw sub-zero)
-
-pub returns-in-Fault : goal.returns-in-Fault
-returns-in-Fault c =
-    let turn = c.loop-t in
-    sym (turn.invariant.1 ∙ times_fault _ turn.t _ _ _ _ c.loop-t-test.true (sym c.thread.ensures ∙ c.in-Fault.is))
-
-pub loop-t-preserved : goal.loop-t-preserved
-loop-t-preserved c =
-    let turn = c.loop-t in
-    (omega arith, turn.invariant.1 ∙ times_step _ turn.t _ _ _ c.loop-t-test.true (sym c.thread.ensures ∙ c.in-At.is))
-
 pub returns : goal.returns
-returns c = sym (c.loop-t.invariant.1 ∙ times_end _ c.loop-t.t _ _ c.loop-t-test.false)
+returns c = c.times.ensures _ (λ at x fits called. search rules) ∙ times_repeated (thread c.args.job.now c.args.version c.args.vars) _ _
