@@ -1,17 +1,20 @@
 -- From the decoder's answer to the job: for whoever calls it.
-use Rattle.std.specs.Prelude.{◌≡◌, refl, List, ℕ, ◌<◌, get_or}
-use Rattle.std.proofs.Common.{sym, ◌∙◌, arith, ext_get_or}
+use Rattle.std.specs.Prelude.{◌≡◌, refl, List, [], ◌∷◌, ℕ, ◌<◌, get_or, Result, Ok, Err}
+use Rattle.std.proofs.Common.{sym, ap, ◌∙◌, arith, ext_get_or}
 use Rattle.std.proofs.Math.Decide.{dec_lt}
 use Rattle.rules.specs.File.{accepted, refused, decode, held_job, job_of}
 use Rattle.rules.specs.File as file
 use Rattle.rules.specs.declared.Model.{Model}
 use Rattle.job.specs.declared.Layout.{Layout}
 use Rattle.job.specs.declared.Starts.{Starts}
-use Rattle.readers.specs.declared.Next.TheVariants.{At}
-use Rattle.job.specs.declared.Decoded.{Decoded}
-use Rattle.job.specs.declared.Decoded.TheVariants.{Accepted, Refused}
+use Rattle.readers.specs.Passed.{At}
+use Rattle.job.specs.Passed.{Accepted, Refused}
 use Rattle.readers.specs.Passed.{count_in}
-use Rattle.job.specs.Passed.{answer_of}
+use Rattle.readers.specs.declared.faults.Fault.{Fault}
+use Rattle.readers.specs.declared.faults.Refusal.{Refusal}
+use Rattle.readers.specs.declared.faults.Refusal.TheVariants.{LengthWrong, VersionWrong, HeadOutOfRange, ThreadBad, GoalBad, NotWhole, NoSlots}
+use Rattle.readers.specs.Refusals.{number_of}
+use Rattle.job.specs.Passed.{came_out, answer_of}
 use Rattle.job.specs.Laid.{StartsLaid, AcceptedUnder, IsAccepted}
 
 -- bytes that the decoder accepts hold a job, and its model is the one given
@@ -60,6 +63,31 @@ layout_once bytes l m a b =
       starts = starts_once bytes l.starts m.starts h.starts k.starts i;
     }
 
+-- a refusal is known by its number
+abbrev refusal_by : ℕ → Refusal
+refusal_by n = get_or (NoSlots ∷ LengthWrong ∷ VersionWrong ∷ HeadOutOfRange ∷ ThreadBad ∷ GoalBad ∷ NotWhole ∷ []) n NoSlots
+
+by_number : (r : Refusal) → refusal_by (number_of r) ≡ r
+by_number LengthWrong = refl
+by_number VersionWrong = refl
+by_number HeadOutOfRange = refl
+by_number ThreadBad = refl
+by_number GoalBad = refl
+by_number NotWhole = refl
+by_number NoSlots = refl
+
+pub number_once : (r s : Refusal) → number_of r ≡ number_of s → r ≡ s
+number_once r s e = sym (by_number r) ∙ ap refusal_by e ∙ by_number s
+
+came_out_once : (r s : Result Model Fault) → came_out r ≡ came_out s → r ≡ s
+came_out_once (Ok m) (Ok n) e = let h : m ≡ n = cc in ap {B = Result Model Fault} Ok h
+came_out_once (Err f) (Err g) e =
+    let n : number_of f.refusal ≡ number_of g.refusal = cc in
+    let o : f.offset ≡ g.offset = cc in
+    λ i. Err (record { refusal = number_once f.refusal g.refusal n i; offset = o i })
+came_out_once (Ok m) (Err g) e = absurd (let z : ◌≡◌ {A = ℕ} 0 1 = cc in omega arith)
+came_out_once (Err f) (Ok n) e = absurd (let z : ◌≡◌ {A = ℕ} 0 1 = cc in omega arith)
+
 -- any two answers that the promise allows are equal
-pub decode_once : (bytes : List ℕ) (r s : Decoded) → r ≡ answer_of (decode bytes) → s ≡ answer_of (decode bytes) → r ≡ s
-decode_once bytes r s h k = h ∙ sym k
+pub decode_once : (bytes : List ℕ) (r s : Result Model Fault) → came_out r ≡ answer_of (decode bytes) → came_out s ≡ answer_of (decode bytes) → r ≡ s
+decode_once bytes r s h k = came_out_once r s (h ∙ sym k)

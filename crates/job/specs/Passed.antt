@@ -1,5 +1,5 @@
 -- What the decoder's small answers are in the definitions of the file.
-use Rattle.std.specs.Prelude.{List, [], ℕ, ◌+◌, length, get_or}
+use Rattle.std.specs.Prelude.{List, [], ℕ, ◌+◌, length, get_or, Result, Ok, Err}
 use Rattle.std.proofs.Math.Option.{Option, none, some}
 use Rattle.rules.specs.File.{accepted, refused, value, clause_of}
 use Rattle.rules.specs.File as file
@@ -7,21 +7,25 @@ use Rattle.rules.specs.declared.Model.{Model}
 use Rattle.rules.specs.declared.Width.{Width}
 use Rattle.rules.specs.declared.Instr.{Instr}
 use Rattle.rules.specs.declared.Clause.{Clause}
-use Rattle.job.specs.declared.PlaceRead.{PlaceRead}
-use Rattle.job.specs.declared.PlaceRead.TheVariants as PlaceReads
-use Rattle.readers.specs.declared.Next.{Next}
-use Rattle.readers.specs.declared.Next.TheVariants.{At, Fault}
+use Rattle.readers.specs.declared.faults.Fault as faults
+use Rattle.readers.specs.Refusals.{number_of}
+use Rattle.readers.specs.Passed.{Next}
+use Rattle.readers.specs.Passed.{At, Fault}
 use Rattle.readers.specs.Passed.{model_at}
-use Rattle.job.specs.declared.Decoded.{Decoded}
-use Rattle.job.specs.declared.Decoded.TheVariants.{Accepted, Refused}
-
-abbrev pub place_of : PlaceRead → Option Instr
-place_of (PlaceReads.Holds i) = some i
-place_of PlaceReads.Ended = none
 
 abbrev pub clause_in_bytes : List ℕ → Width → (vars : ℕ) → List (List Instr) → (at : ℕ) → Option Clause
 clause_in_bytes bytes w vars threads at =
     clause_of vars (length threads) (length (get_or threads (get_or bytes (at + 1) 0) [])) (get_or bytes at 0) (get_or bytes (at + 1) 0) (get_or bytes (at + 2) 0) (value bytes w (at + 3))
+
+-- what decoding comes to: accepted, with the model, or the refusal's number and offset
+pub data Decoded : Type 0 where
+  Accepted : Model → Decoded
+  Refused : (number offset : ℕ) → Decoded
+
+-- what the decoder in code answers
+abbrev pub came_out : Result Model faults.Fault → Decoded
+came_out (Ok m) = Accepted m
+came_out (Err f) = Refused (number_of f.refusal) f.offset
 
 -- reading that came to the end, under the model that was read, or to a fault
 abbrev pub answer : Next → Option Model → Decoded

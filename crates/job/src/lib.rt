@@ -1,23 +1,23 @@
-// The job file: any bytes in, accepted or the refusal's number and offset out; and where the parts of an accepted job stand.
+// The job file: any bytes in, a job or the fault out; and where the parts of an accepted job stand.
 #![tactic(auto)]
 
-use readers::{
-    CAPACITY_AT, HEAD_OUT_OF_RANGE, MODEL_AT, ModelRead, NOT_WHOLE, Next, THREADS_AT, VARIABLES_AT,
-    VERSION_AT,
-};
-use rules::{HEAD_SIZE, Instr, Model, THREADS};
-
 mod goal; // goal.rt: the readers of the goal
-pub mod accepted;
-pub mod parts; // parts.rt: the parts of an accepted job
+pub mod parts; // parts.rt: an accepted job, and its parts
 mod threads; // threads.rt: where the threads begin, and how long they are
 
-ghost use Rattle.std.specs.Prelude.{◌≡◌};
+ghost use Rattle.std.specs.Prelude.{◌≡◌, IfOk, IfErr};
 ghost use Rattle.rules.specs.File as file;
-ghost use Rattle.readers.specs.Passed.{model_read};
+ghost use Rattle.readers.specs.Refusals.{number_of};
+ghost use Rattle.readers.specs.Passed.{came_to};
 ghost use Rattle.job.specs.Passed as passed;
 ghost use Rattle.job.specs.Stages.{rest_stage};
 ghost use Rattle.job.specs.Laid.{HeadGood, AcceptedUnder, IsAccepted};
+
+pub use parts::Job;
+use readers::faults::{Fault, Refusal};
+use readers::{CAPACITY_AT, MODEL_AT, THREADS_AT, VARIABLES_AT, VERSION_AT};
+use rules::{HEAD_SIZE, Model, THREADS};
+use threads::Threads;
 
 // Where each thread's n stands, 0 for a thread that the job doesn't have; and the goal's flag, with K and the clauses behind it.
 #[derive(Clone, Copy)]
@@ -37,66 +37,39 @@ pub struct Layout {
     pub starts: Starts,
 }
 
-// A job that is accepted, with its model; or the refusal's number and offset.
-#[derive(Clone, Copy)]
-pub enum Decoded {
-    Accepted(Model),
-    Refused(u8, usize),
-}
-
-// What stands at a place of a thread: an instruction, or none, where the thread has ended.
-#[derive(Clone, Copy)]
-pub enum PlaceRead {
-    Holds(Instr),
-    Ended,
-}
-
-// What reading has come to, under the model that was read.
-fn answer(n: Next, m: ModelRead) -> Decoded
-    ensures { result ≡ passed.answer n (model_read m) }
-{
-    match n {
-        Next::At(_) => match m {
-            ModelRead::Names(model) => Decoded::Accepted(model),
-            ModelRead::NamesNone => Decoded::Refused(HEAD_OUT_OF_RANGE, MODEL_AT),
-        },
-        Next::Fault(number, offset) => Decoded::Refused(number, offset),
-    }
-}
-
 // What stands behind a head that was good: the initial values, the threads and the goal.
-fn behind_head(job: &[u8]) -> Next
+fn behind_head(job: &[u8]) -> Result<usize, Fault>
     requires { HeadGood job.now }
-    ensures { result ≡ rest_stage job.now }
+    ensures { came_to result ≡ rest_stage job.now }
 {
     let vars = job[VARIABLES_AT];
     let size = readers::value_size(tables::width(job[VERSION_AT]));
-    let start = HEAD_SIZE + size * readers::wide(vars);
+    let start = HEAD_SIZE + size * usize::from(vars);
     if job.len() < start {
         // The first that isn't wholly there begins behind those that are.
         let whole = (job.len() - HEAD_SIZE) / size;
-        return Next::Fault(NOT_WHOLE, HEAD_SIZE + size * whole);
+        return Err(Refusal::NotWhole.at(HEAD_SIZE + size * whole));
     }
-    match readers::threads(job, job[VERSION_AT], vars, job[THREADS_AT], start) {
-        Next::At(_) => goal::goal(job, threads::starts(job)),
-        Next::Fault(number, offset) => Next::Fault(number, offset),
-    }
+    readers::threads(job, job[VERSION_AT], vars, job[THREADS_AT], start)?;
+    let starts = threads::starts(job);
+    goal::goal(&Threads {
+        job,
+        starts: &starts,
+    })
 }
 
-// Any bytes: the length is judged first, then the fields from the front.
-pub fn decode(job: &[u8]) -> Decoded
-    ensures { result ≡ passed.answer_of (file.decode job.now) }
+// Any bytes: the length is judged first, then the fields from the front. The model of a job that is accepted.
+pub fn decode(job: &[u8]) -> Result<Model, Fault>
+    ensures { passed.came_out result ≡ passed.answer_of (file.decode job.now) }
 {
-    let length = readers::length_field(job);
-    let head = readers::head_fields(job);
-    match readers::first(length, head) {
-        Next::At(_) => answer(behind_head(job), readers::model(job[MODEL_AT])),
-        Next::Fault(number, offset) => Decoded::Refused(number, offset),
-    }
+    readers::length_field(job)?;
+    readers::head_fields(job)?;
+    behind_head(job)?;
+    readers::model(job[MODEL_AT]).ok_or(Refusal::HeadOutOfRange.at(MODEL_AT))
 }
 
 // The layout of a job that the decoder accepts, and the model that it then gives.
-pub fn layout_of(job: &[u8], model: Model) -> Layout
+fn layout_of(job: &[u8], model: Model) -> Layout
     requires { AcceptedUnder job.now model }
     ensures { IsAccepted job.now result }
 {
@@ -109,4 +82,14 @@ pub fn layout_of(job: &[u8], model: Model) -> Layout
         vars: job[VARIABLES_AT],
         starts,
     }
+}
+
+// The job that the bytes are, or why they are none.
+pub fn read(bytes: &[u8]) -> Result<Job<'_>, Fault>
+    ensures accepted { IfOk result (λ j. j.bytes.now ≡ bytes.now) }
+    ensures refused { IfErr result (λ f. file.decode bytes.now ≡ file.refused (number_of f.refusal) f.offset) }
+{
+    let model = decode(bytes)?;
+    let layout = layout_of(bytes, model);
+    Ok(Job { bytes, layout })
 }

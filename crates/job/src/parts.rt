@@ -1,93 +1,101 @@
-// The parts of a job whose bytes were accepted, found by its layout.
+// An accepted job, and its parts, found by where they begin.
 ghost use Rattle.std.specs.Prelude.{◌≡◌, [], length, get_or};
 ghost use Rattle.std.proofs.Math.ListN.{get_elem?};
-ghost use Rattle.rules.specs.File.{job_of};
+ghost use Rattle.rules.specs.File.{accepted, decode, job_of};
 ghost use Rattle.rules.specs.Step.{instruction_at};
-ghost use Rattle.tables.specs.Told.{instr_of, goal_clause_of};
-ghost use Rattle.job.specs.Passed.{place_of};
-ghost use Rattle.job.specs.Laid.{IsAccepted};
+ghost use Rattle.rules.specs.Sound.{JobIn};
+ghost use Rattle.rules.specs.SoundOnce.{job_once};
+ghost use Rattle.tables.specs.Told.{told};
+ghost use Rattle.job.specs.Laid.{Laid};
 
-use crate::{Layout, PlaceRead, goal, threads};
+use crate::threads::Threads;
+use crate::{Layout, goal};
 use readers::{VARIABLES_AT, VERSION_AT};
-use rules::HEAD_SIZE;
-use tables::{ClauseRead, InstrRead};
+use rules::{Clause, HEAD_SIZE, Instr};
 
-// The length of thread t, 0 for a thread that is not there.
-pub fn code_length(job: &[u8], l: Layout, t: u8) -> u8
-    requires { IsAccepted job.now l }
-    ensures { result ≡ length (get_or (job_of job.now).threads t []) }
-{
-    threads::thread_length(job, l.starts, t)
+// Bytes that are a job, and where its parts stand in them.
+#[derive(Clone, Copy)]
+pub struct Job<'a> {
+    pub bytes: &'a [u8],
+    pub layout: Layout,
+    pub ghost decoded: { decode bytes.now ≡ accepted (job_of bytes.now) },
+    pub ghost in_range: { JobIn (job_of bytes.now) } by { job_once (job_of bytes.now) },
+    pub ghost laid: { Laid bytes.now layout (job_of bytes.now) },
 }
 
-// What was read at a place before n. An accepted job has an instruction there.
-fn at_place(i: InstrRead) -> PlaceRead
-    ensures { place_of result ≡ instr_of i }
-{
-    match i {
-        InstrRead::Good(i) => PlaceRead::Holds(i),
-        InstrRead::Bad => PlaceRead::Ended,
+impl<'a> Job<'a> {
+    fn threads(&self) -> Threads<'_>
+        ensures bytes { result.job.now ≡ self.now.bytes.now }
+        ensures starts { result.starts.now ≡ self.now.layout.starts }
+    {
+        Threads {
+            job: self.bytes,
+            starts: &self.layout.starts,
+        }
     }
-}
 
-// The instruction of thread t at place p.
-pub fn instruction_at(job: &[u8], l: Layout, t: u8, p: u8) -> PlaceRead
-    requires { IsAccepted job.now l }
-    ensures { place_of result ≡ instruction_at (job_of job.now) t p }
-{
-    let n = code_length(job, l, t);
-    if n <= p {
-        return PlaceRead::Ended;
+    // The length of thread t, 0 for a thread that is not there.
+    pub fn code_length(&self, t: u8) -> u8
+        ensures { result ≡ length (get_or (job_of self.now.bytes.now).threads t []) }
+    {
+        self.threads().length(t)
     }
-    let at = threads::instruction_start(job, l.starts, t, p);
-    at_place(readers::instruction_from(job, job[VERSION_AT], job[VARIABLES_AT], n, at))
-}
 
-pub fn flag(job: &[u8], l: Layout) -> bool
-    requires { IsAccepted job.now l }
-    ensures { result ≡ (job_of job.now).all_empty }
-{
-    let s = l.starts;
-    let at = s.goal;
-    job[at] == 1
-}
-
-pub fn clause_count(job: &[u8], l: Layout) -> u8
-    requires { IsAccepted job.now l }
-    ensures { result ≡ length (job_of job.now).clauses }
-{
-    let s = l.starts;
-    job[s.goal + 1]
-}
-
-// The clause at place i, bad where there is none.
-pub fn clause_at(job: &[u8], l: Layout, i: u8) -> ClauseRead
-    requires { IsAccepted job.now l }
-    ensures { goal_clause_of result ≡ get_elem? (job_of job.now).clauses i }
-{
-    let count = clause_count(job, l);
-    if count <= i {
-        return ClauseRead::Bad;
+    // The instruction of thread t at place p, if there is one: at its end the thread has none.
+    pub fn instruction_at(&self, t: u8, p: u8) -> Option<Instr>
+        ensures { told result ≡ instruction_at (job_of self.now.bytes.now) t p }
+    {
+        let n = self.code_length(t);
+        if n <= p {
+            return None;
+        }
+        let at = self.threads().instruction_start(t, p);
+        readers::instruction_from(
+            self.bytes,
+            self.bytes[VERSION_AT],
+            self.bytes[VARIABLES_AT],
+            n,
+            at,
+        )
     }
-    let s = l.starts;
-    let size = readers::item_size(tables::width(job[VERSION_AT]));
-    let at = s.goal + 2 + size * readers::wide(i);
-    goal::clause_from(job, s, at)
-}
 
-// The initial value of variable v, 0 for one that is not there.
-pub fn initial(job: &[u8], l: Layout, v: u8) -> u16
-    requires { IsAccepted job.now l }
-    ensures { result ≡ get_or (job_of job.now).initial v 0 }
-{
-    let vars = l.vars;
-    if vars <= v {
-        return 0;
+    // Whether the goal asks that all buffers are empty.
+    pub fn flag(&self) -> bool
+        ensures { result ≡ (job_of self.now.bytes.now).all_empty }
+    {
+        self.bytes[self.layout.starts.goal] == 1
     }
-    let w = tables::width(job[VERSION_AT]);
-    readers::value(
-        job,
-        w,
-        HEAD_SIZE + readers::value_size(w) * readers::wide(v),
-    )
+
+    pub fn clause_count(&self) -> u8
+        ensures { result ≡ length (job_of self.now.bytes.now).clauses }
+    {
+        self.bytes[self.layout.starts.goal + 1]
+    }
+
+    // The clause at place i, if there is one.
+    pub fn clause_at(&self, i: u8) -> Option<Clause>
+        ensures { told result ≡ get_elem? (job_of self.now.bytes.now).clauses i }
+    {
+        if self.clause_count() <= i {
+            return None;
+        }
+        let size = readers::item_size(tables::width(self.bytes[VERSION_AT]));
+        let at = self.layout.starts.goal + 2 + size * usize::from(i);
+        goal::clause_from(&self.threads(), at)
+    }
+
+    // The initial value of variable v, 0 for one that is not there.
+    pub fn initial(&self, v: u8) -> u16
+        ensures { result ≡ get_or (job_of self.now.bytes.now).initial v 0 }
+    {
+        if self.layout.vars <= v {
+            return 0;
+        }
+        let w = tables::width(self.bytes[VERSION_AT]);
+        readers::value(
+            self.bytes,
+            w,
+            HEAD_SIZE + readers::value_size(w) * usize::from(v),
+        )
+    }
 }

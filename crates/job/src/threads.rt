@@ -8,12 +8,20 @@ use crate::Starts;
 use readers::{THREADS_AT, VARIABLES_AT, VERSION_AT};
 use rules::{HEAD_SIZE, THREADS, Width};
 
+// Threads that were good: the bytes of their job, and where they begin in them.
+#[derive(Clone, Copy)]
+pub struct Threads<'a> {
+    pub job: &'a [u8],
+    pub starts: &'a Starts,
+    pub ghost laid: { StartsLaid job.now starts.now },
+}
+
 // Behind the thread whose n stands at `at`: n, and then so many instructions.
 fn behind(job: &[u8], w: Width, at: usize) -> usize
     requires { at < length job.now }
     ensures { result ≡ at + 1 + item_size w * get_or job.now at 0 }
 {
-    at + 1 + readers::item_size(w) * readers::wide(job[at])
+    at + 1 + readers::item_size(w) * usize::from(job[at])
 }
 
 // From thread to thread.
@@ -21,38 +29,36 @@ pub fn starts(job: &[u8]) -> Starts
     requires { ThreadsGood job.now }
     ensures { StartsLaid job.now result }
 {
-    let count = readers::wide(job[THREADS_AT]);
+    let count = usize::from(job[THREADS_AT]);
     let w = tables::width(job[VERSION_AT]);
     let mut threads = [0usize; THREADS];
-    let mut at = HEAD_SIZE + readers::value_size(w) * readers::wide(job[VARIABLES_AT]);
-    let mut t: usize = 0;
-    while t < count {
+    let mut at = HEAD_SIZE + readers::value_size(w) * usize::from(job[VARIABLES_AT]);
+    for t in 0..count {
         threads[t] = at;
         at = behind(job, w, at);
-        t += 1;
     }
     Starts { threads, goal: at }
 }
 
-// A thread's n, 0 for a thread that the job doesn't have.
-pub fn thread_length(job: &[u8], s: Starts, t: u8) -> u8
-    requires { StartsLaid job.now s }
-    ensures { result ≡ length (get_or (threads_of job.now) t []) }
-{
-    if t < job[THREADS_AT] {
-        let at = s.threads[t as usize];
-        job[at]
-    } else {
-        0
+impl<'a> Threads<'a> {
+    // A thread's n, 0 for a thread that the job doesn't have.
+    pub fn length(&self, t: u8) -> u8
+        ensures { result ≡ length (get_or (threads_of self.now.job.now) t []) }
+    {
+        if t < self.job[THREADS_AT] {
+            self.job[self.starts.threads[t as usize]]
+        } else {
+            0
+        }
     }
-}
 
-// Where the instruction at place p of thread t begins.
-pub fn instruction_start(job: &[u8], s: Starts, t: u8, p: u8) -> usize
-    requires { StartsLaid job.now s × (p < length (get_or (threads_of job.now) t [])) }
-    ensures { result ≡ get_or s.threads t 0 + 1 + item_size (width_in job.now) * p }
-{
-    s.threads[t as usize]
-        + 1
-        + readers::item_size(tables::width(job[VERSION_AT])) * readers::wide(p)
+    // Where the instruction at place p of thread t begins.
+    pub fn instruction_start(&self, t: u8, p: u8) -> usize
+        requires { p < length (get_or (threads_of self.now.job.now) t []) }
+        ensures { result ≡ get_or self.now.starts.now.threads t 0 + 1 + item_size (width_in self.now.job.now) * p }
+    {
+        self.starts.threads[t as usize]
+            + 1
+            + readers::item_size(tables::width(self.job[VERSION_AT])) * usize::from(p)
+    }
 }

@@ -12,17 +12,19 @@ use Rattle.reach.specs.ListLaws.{at_in, below_at}
 use Rattle.rules.specs.File.{Read, got, fault, Reader, read_on, ◌>>=◌, done, times, judged, item}
 use Rattle.readers.specs.Passed.{Next}
 use Rattle.readers.specs.Passed.{At, Fault}
-use Rattle.std.proofs.Common.{rules}
-use Rattle.std.specs.Prelude.{Result, Ok, Err}
-use Rattle.std.specs.Result.{IsErr, IsErrAnd}
+use Rattle.std.specs.Prelude.{Result, Err}
+use Rattle.std.specs.Result.{IsErrAnd}
+use Rattle.std.proofs.lemmas.Result.{err_from_is_err_and}
 use Rattle.readers.specs.declared.faults.Fault as faults
 use Rattle.readers.specs.Refusals.{number_of}
 use Rattle.readers.specs.Passed.{came_to, passed, listed, chain, then, repeated}
 
 -- a fault that is handed on is the same fault
-pub came_to_err : (x : Result ℕ faults.Fault) (f : faults.Fault) → IsErr x → IsErrAnd x (λ e. e ≡ f) → came_to x ≡ Fault (number_of f.refusal) f.offset
-came_to_err (Ok at) f h k = search rules
-came_to_err (Err e) f h k = rw k
+pub handed_on : {T : Type 0} (x : Result T faults.Fault) (f : faults.Fault) → IsErrAnd x (λ e. e ≡ f) → x ≡ Err f
+handed_on x f h = let e = err_from_is_err_and x h in rw (e.1, e.2)
+
+pub came_to_err : (x : Result ℕ faults.Fault) (f : faults.Fault) → IsErrAnd x (λ e. e ≡ f) → came_to x ≡ Fault (number_of f.refusal) f.offset
+came_to_err x f h = ap came_to (handed_on x f h)
 
 module _ {A : Type 0} (bytes : List ℕ) (size number : ℕ) (value : ℕ → Option A) (at : ℕ) where
   pub item_missing : length bytes < at + size → item bytes size number value at ≡ fault 6 at

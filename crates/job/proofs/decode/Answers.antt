@@ -1,26 +1,49 @@
 -- `job::decode` meets its contract: the length is judged first, and then the fields from the front.
-use mathlib.Core.Path.{◌≡◌, sym, ◌∙◌}
+use mathlib.Core.Path.{◌≡◌, refl, sym, ap, ◌∙◌}
 use native.Mathlib.Omega.{arith}
-use Rattle.readers.specs.Passed.{then}
+use Prim.Native.Nat.{ℕ}
+use Rattle.std.specs.Prelude.{Option, Some, None, ok_or}
+use Rattle.rules.specs.declared.Model.{Model}
+use Rattle.tables.specs.Told.{told}
+use Rattle.readers.specs.declared.faults.Fault as faults
+use Rattle.readers.specs.declared.faults.Refusal.TheVariants.{HeadOutOfRange}
+use Rattle.readers.specs.Passed.{At, model_at, came_to, then}
+use Rattle.job.specs.Passed.{came_out, answer}
 use Rattle.readers.specs.Stages.{length_stage, head_stage}
+use Rattle.readers.proofs.Readers.{handed_on}
 use Rattle.job.proofs.StageLaws.{head_good}
 use Rattle.job.proofs.FieldsGot.{decode_stages}
 use Rattle.job.proofs.decode.Goals as goal
-use Rattle.job.proofs.decode.Goals.{After-first}
+use Rattle.job.proofs.decode.Goals.{In_ok-head_fields}
 
-first_is : (c : After-first) → let bytes = c.args.job.now in c.first.result ≡ then (length_stage bytes) (head_stage bytes)
-first_is c = rw (← c.length_field-length.ensures, ← c.head_fields-head.ensures) c.first.ensures
+-- the length and the head were good
+good : (c : In_ok-head_fields) → let bytes = c.args.job.now in then (length_stage bytes) (head_stage bytes) ≡ At c.in_ok-head_fields.field-0
+good c = rw (← c.in_ok-length_field.ensures, ← c.in_ok-head_fields.ensures)
+
+pub returns-in_err-length_field : goal.returns-in_err-length_field
+returns-in_err-length_field c =
+    rw (handed_on _ c.in_err-length_field.field-0.0 c.from_residual.ensures.1, decode_stages c.args.job.now, ← c.in_err-length_field.ensures)
+
+pub returns-in_err-head_fields : goal.returns-in_err-head_fields
+returns-in_err-head_fields c =
+    rw (handed_on _ c.in_err-head_fields.field-0.0 c.from_residual-in_err-head_fields.ensures.1, decode_stages c.args.job.now, ← c.in_ok-length_field.ensures, ← c.in_err-head_fields.ensures)
 
 pub behind_head-requires : goal.behind_head-requires
-behind_head-requires c = head_good _ _ (sym (first_is (goal.at.behind_head-requires c).After-first) ∙ c.in-At.is)
+behind_head-requires c = head_good _ _ (good (goal.at.behind_head-requires c).In_ok-head_fields)
+
+pub returns-in_err-behind_head : goal.returns-in_err-behind_head
+returns-in_err-behind_head c =
+    rw (handed_on _ c.in_err-behind_head.field-0.0 c.from_residual-in_err-behind_head.ensures.1, decode_stages c.args.job.now, good (goal.at.returns-in_err-behind_head c).In_ok-head_fields, ← c.in_err-behind_head.ensures)
 
 pub bounds-job-3 : goal.bounds-job-3
-bounds-job-3 c =
-    omega (arith, (head_good _ _ (sym (first_is (goal.at.bounds-job-3 c).After-first) ∙ c.in-At.is)).there)
+bounds-job-3 c = omega (arith, (head_good _ _ (good (goal.at.bounds-job-3 c).In_ok-head_fields)).there)
 
-pub returns-in-At : goal.returns-in-At
-returns-in-At c =
-    rw (decode_stages _, ← first_is (goal.at.returns-in-At c).After-first, c.in-At.is, ← c.behind_head.ensures, ← c.model.ensures) c.answer.ensures
+-- under the model that was read, if there is one
+named : (o : Option Model) (f : faults.Fault) (next : ℕ) → f ≡ record { refusal = HeadOutOfRange; offset = model_at } → came_out (ok_or o f) ≡ answer (At next) (told o)
+named (Some m) f next e = refl
+named None f next e = rw e
 
-pub returns-in-Fault : goal.returns-in-Fault
-returns-in-Fault c = rw (decode_stages _, ← first_is (goal.at.returns-in-Fault c).After-first, c.in-Fault.is)
+pub returns : goal.returns
+returns c =
+    rw (c.ok_or.ensures.value, decode_stages c.args.job.now, good (goal.at.returns c).In_ok-head_fields, ← c.in_ok-behind_head.ensures, ← c.model.ensures)
+    (named c.model.result c.at.result c.in_ok-behind_head.field-0 c.at.ensures)

@@ -11,7 +11,7 @@ bounds-job-at c = field_passed _ _ _ _ _ (sym c.in_ok-next.ensures)
 
 pub returns-in_err-next : goal.returns-in_err-next
 returns-in_err-next c =
-    let e = c.from_residual.ensures in came_to_err _ _ e.0 e.1 ∙ rw (thread_passed _ _ _ _, ← c.in_err-next.ensures)
+    let e = c.from_residual.ensures.1 in came_to_err _ _ e ∙ rw (thread_passed _ _ _ _, ← c.in_err-next.ensures)
 
 pub returns : goal.returns
 returns c = rw (thread_passed _ _ _ _, ← c.in_ok-next.ensures) (c.times.ensures _ (λ at x fits called. search rules) ∙ times_repeated (instruction c.args.job.now c.args.version c.args.vars _) _ _)

@@ -16,5 +16,5 @@ pub returns-in_err-at : goal.returns-in_err-at
 returns-in_err-at g c =
     let turn = c.items in
     λ r h.
-    came_to_err c.from_residual.result c.in_err-at.field-0.0 c.from_residual.ensures.0 c.from_residual.ensures.1
+    came_to_err c.from_residual.result c.in_err-at.field-0.0 c.from_residual.ensures.1
     ∙ sym (turn.invariant.1 r h ∙ repeated_fault r _ _ turn.at _ _ c.items-test.true (sym (h turn.at _ turn.invariant.0 c.in_err-at.ensures)))

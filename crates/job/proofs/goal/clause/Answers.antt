@@ -7,41 +7,42 @@ use borrow.Author.Tests.{leb-true, leb-false}
 use lib.ListN.{length}
 use Rattle.rules.specs.Limits.{item_size}
 use Rattle.rules.specs.File.{clause, byte, judged}
-use Rattle.tables.specs.Told.{goal_clause_of}
+use Rattle.tables.specs.Told.{told}
 use Rattle.readers.specs.Passed.{passed}
 use Rattle.job.specs.Stages.{width_in}
 use Rattle.readers.proofs.Readers.{item_judged, item_missing}
 use Rattle.job.proofs.goal.clause.Goals as goal
-use Rattle.job.proofs.goal.clause.Goals.{After-is_there, Then-is_there}
+use Rattle.job.proofs.goal.clause.Goals.{After-is_there, Else-not-is_there}
 
 -- the bytes asked for are those of an item
-asked : (c : After-is_there) → c.item_size-size.result ≡ item_size (width_in c.args.job.now)
+asked : (c : After-is_there) → c.item_size-size.result ≡ item_size (width_in c.args.threads.now.job.now)
 asked c = c.item_size-size.ensures ∙ ap item_size c.width.ensures
 
 there :
-    (c : Then-is_there) → let a = c.args in a.at + item_size (width_in a.job.now) ≤ length a.job.now
-there c = rw (← (c.item_size-size.ensures ∙ ap item_size c.width.ensures)) (leb-true _ _ (sym c.is_there.ensures ∙ c.if-is_there.true))
+    (c : Else-not-is_there) → let job = c.args.threads.now.job.now in c.args.at + item_size (width_in job) ≤ length job
+there c = rw (← (c.item_size-size.ensures ∙ ap item_size c.width.ensures)) (leb-true _ _ (sym c.is_there.ensures ∙ c.if-not-is_there.false))
 
-pub overflow_add-next : goal.overflow_add-next
-overflow_add-next c = let h = there c in omega (arith, asked (goal.at.overflow_add-next c).After-is_there)
+pub overflow_add-result : goal.overflow_add-result
+overflow_add-result c = let h = there (goal.at.overflow_add-result c).Else-not-is_there in omega (arith, asked (goal.at.overflow_add-result c).After-is_there)
 
 pub clause_from-requires : goal.clause_from-requires
-clause_from-requires c = (c.requires, there c)
+clause_from-requires c = there c
 
-pub returns-in-Good : goal.returns-in-Good
+pub returns-in-Some : goal.returns-in-Some
 unfolding clause byte judged
-returns-in-Good c =
-    rw (asked (goal.at.returns-in-Good c).After-is_there)
-    (item_judged _ _ 5 _ _ (some _) (there (goal.at.returns-in-Good c).Then-is_there)
-    (sym (ap goal_clause_of c.in-Good.is) ∙ c.clause_from.ensures))
+returns-in-Some c =
+    rw (asked (goal.at.returns-in-Some c).After-is_there)
+    (item_judged _ _ 5 _ _ (some _) (there (goal.at.returns-in-Some c).Else-not-is_there)
+    (sym (ap told c.in-Some.is) ∙ c.clause_from.ensures))
 
-pub returns-in-Bad : goal.returns-in-Bad
+pub returns-in-None : goal.returns-in-None
 unfolding clause byte judged
-returns-in-Bad c =
-    item_judged _ _ 5 _ _ none (there (goal.at.returns-in-Bad c).Then-is_there)
-    (sym (ap goal_clause_of c.in-Bad.is) ∙ c.clause_from.ensures)
+returns-in-None c =
+    rw c.at-in-None.ensures
+    (item_judged _ _ 5 _ _ none (there (goal.at.returns-in-None c).Else-not-is_there)
+    (sym (ap told c.in-None.is) ∙ c.clause_from.ensures))
 
-pub returns-else-is_there : goal.returns-else-is_there
+pub returns-then-not-is_there : goal.returns-then-not-is_there
 unfolding clause
-returns-else-is_there c =
-    sym (ap passed (item_missing _ _ 5 _ _ (rw (← (asked (goal.at.returns-else-is_there c).After-is_there)) (leb-false _ _ (sym c.is_there.ensures ∙ c.if-is_there.false)))))
+returns-then-not-is_there c =
+    rw c.at.ensures (sym (ap passed (item_missing _ _ 5 _ _ (rw (← (asked (goal.at.returns-then-not-is_there c).After-is_there)) (leb-false _ _ (sym c.is_there.ensures ∙ c.if-not-is_there.true))))))

@@ -4,11 +4,11 @@ use Rattle.job.proofs.ThreadLaws.{threads_number, starts_good}
 use Rattle.job.proofs.goal.clause_from.Goals as goal
 
 pub item_at-i-requires : goal.item_at-i-requires
-item_at-i-requires c = rw c.width.ensures c.requires.1
+item_at-i-requires c = rw c.width.ensures c.requires
 
 pub returns : goal.returns
 returns c =
     let i = c.item_at-i.ensures in
     let width = c.width.ensures in
     c.clause.ensures
-    ∙ rw (c.thread_length-n.ensures, i.op, i.a, i.b, i.c, width, ← threads_number _ (starts_good c.requires.0))
+    ∙ rw (c.length-n.ensures, i.op, i.a, i.b, i.c, width, ← threads_number _ (starts_good c.args.threads.now.laid))

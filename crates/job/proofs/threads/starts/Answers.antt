@@ -2,21 +2,21 @@ use Prim.Native.Nat.{◌≤◌, ◌<◌, ◌*◌}
 use native.Mathlib.Omega.{arith}
 use Rattle.rules.specs.Limits.{byte_values, item_size}
 use Rattle.rules.specs.declared.Width.TheVariants.{Two}
-use Rattle.readers.specs.Passed.{count_in}
+use Rattle.readers.specs.Passed.{count_in, variables_at}
 use Rattle.readers.proofs.Widths.{few_bytes}
 use Rattle.job.specs.Laid.{ThreadsGood}
 use Rattle.job.proofs.ThreadLaws.{walked_none, walked_inside, walked_next, walked_all}
 use Rattle.job.proofs.threads.starts.Goals as goal
-use Rattle.job.proofs.threads.starts.Goals.{After-wide, At-loop-t, In-loop-t}
+use Rattle.job.proofs.threads.starts.Goals.{After-from, At-loop-t, In-loop-t}
 
 good : (c : At-loop-t) → ThreadsGood c.args.job.now
 good c = c.requires
 
 below : (c : In-loop-t) → c.loop-t.t < count_in c.args.job.now
-below c = let count = c.wide-count.ensures in omega arith
+below c = let count = c.from-count.ensures in omega arith
 
-few : (c : After-wide) → c.value_size.result * c.wide.result ≤ item_size Two * byte_values
-few c = few_bytes c.width-w.result _ _ (omega (arith, c.value_size.ensures)) c.wide.ensures.1
+few : (c : After-from) → c.value_size.result * c.from.result ≤ item_size Two * byte_values
+few c = few_bytes c.width-w.result _ _ (omega (arith, c.value_size.ensures)) (omega (arith, c.from.ensures, (c.type_inv.job variables_at).fits))
 
 pub overflow_mul-at : goal.overflow_mul-at
 overflow_mul-at c = omega (arith, few c)
@@ -26,7 +26,7 @@ overflow_add-at c = omega (arith, few c)
 
 pub loop-t-init : goal.loop-t-init
 loop-t-init c =
-    (omega arith, rw (c.value_size.ensures, c.width-w.ensures, c.wide.ensures.0) (walked_none c.requires))
+    (omega arith, rw (c.value_size.ensures, c.width-w.ensures, c.from.ensures) (walked_none c.requires))
 
 pub behind-at-requires : goal.behind-at-requires
 behind-at-requires c = walked_inside (good (goal.at.behind-at-requires c).At-loop-t) c.loop-t.invariant.1 (below c)
@@ -38,5 +38,5 @@ loop-t-preserved c =
 
 pub returns : goal.returns
 returns c =
-    let count = c.wide-count.ensures in
+    let count = c.from-count.ensures in
     walked_all (good (goal.at.returns c).At-loop-t) c.loop-t.invariant.1 (omega arith)
