@@ -1,12 +1,10 @@
 -- What the functions on a buffer ask and answer.
-use Rattle.std.specs.Prelude.{◌≡◌, false, not, ◌&&◌, List, ℕ, ◌≤◌, ◌<◌}
+use Rattle.std.specs.Prelude.{◌≡◌, false, not, ◌&&◌, List, ℕ, ◌≤◌, ◌<◌, Err}
 use Rattle.std.proofs.Common.{ap}
 use Rattle.rules.specs.Limits.{most_pending, most_variables, group_unit}
 use Rattle.rules.specs.State.{Pending, Buffer}
 use Rattle.rules.specs.Step as rules
-use Rattle.rules.specs.Step.{◌then◌}
-use Rattle.rules.specs.declared.May.{May}
-use Rattle.rules.specs.declared.May.TheVariants.{No}
+use Rattle.rules.specs.Step.{◌then◌, May}
 use Rattle.rules.specs.declared.Reason.TheVariants.{NothingToFlush, NotTheOldest}
 use Rattle.buffer.specs.Held.{number, held_pending, held_buffer, BufferOk}
 use Rattle.buffer.specs.declared.Buf.{Buf}
@@ -14,7 +12,7 @@ use Rattle.buffer.specs.declared.Taken.{Taken}
 
 -- why no store to v of these may be flushed: there is none, or none that is the oldest
 abbrev pub why_not : ℕ → List Pending → May
-why_not v l = rules.needs (rules.is_pending_to v l) NothingToFlush then No NotTheOldest
+why_not v l = rules.needs (rules.is_pending_to v l) NothingToFlush then Err NotTheOldest
 
 -- one more store can be pending; it can go in at an index
 pub record HasRoom (b : Buf) : Type 0 where

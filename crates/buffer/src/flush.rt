@@ -8,7 +8,7 @@ ghost use Rattle.buffer.specs.Places.{first, is_to, is_next_to};
 ghost use Rattle.buffer.specs.Posts.{why_not, Holds, TakesOut, counted_buffer, Takes};
 
 use crate::{Buf, Taken};
-use rules::{ENTRY_SIZE, GROUP_UNIT, MARK_UNIT, May, Model, Reason};
+use rules::{ENTRY_SIZE, GROUP_UNIT, MARK_UNIT, Model, Reason};
 
 // Whether the oldest pending store is one to v.
 fn is_oldest_to(b: Buf, v: u8) -> bool
@@ -70,45 +70,45 @@ fn is_in_oldest_group(b: Buf, v: u8) -> bool
 }
 
 // Why a store to v may not be flushed: where there is one, it is not the oldest.
-fn why_not(b: Buf, v: u8) -> May
+fn why_not(b: Buf, v: u8) -> Result<(), Reason>
     requires { BufferOk b }
     ensures { result ≡ why_not v (held_pending b) }
 {
     if is_pending_to(b, v) {
-        return May::No(Reason::NotTheOldest);
+        return Err(Reason::NotTheOldest);
     }
-    May::No(Reason::NothingToFlush)
+    Err(Reason::NothingToFlush)
 }
 
 // Under TSO only the oldest store may be flushed.
-fn may_flush_oldest(b: Buf, v: u8) -> May
+fn may_flush_oldest(b: Buf, v: u8) -> Result<(), Reason>
     requires { BufferOk b }
     ensures { result ≡ rules.may_flush Tso v (held_pending b) }
 {
     if is_oldest_to(b, v) {
-        return May::Yes;
+        return Ok(());
     }
     why_not(b, v)
 }
 
 // Under PSO the oldest store to each variable may be flushed, if it is of the oldest group.
-fn may_flush_oldest_group(b: Buf, v: u8) -> May
+fn may_flush_oldest_group(b: Buf, v: u8) -> Result<(), Reason>
     requires { BufferOk b }
     ensures { result ≡ rules.may_flush Pso v (held_pending b) }
 {
     if is_in_oldest_group(b, v) {
-        return May::Yes;
+        return Ok(());
     }
     why_not(b, v)
 }
 
 // Whether a store may be flushed to v, and why not: under TSO the oldest alone, under PSO those of the oldest group; SC has no flush.
-pub fn may_flush(m: Model, b: Buf, v: u8) -> May
+pub fn may_flush(m: Model, b: Buf, v: u8) -> Result<(), Reason>
     requires { BufferOk b }
     ensures { result ≡ rules.may_flush m v (held_pending b) }
 {
     match m {
-        Model::Sc => May::No(Reason::NothingToFlush),
+        Model::Sc => Err(Reason::NothingToFlush),
         Model::Tso => may_flush_oldest(b, v),
         Model::Pso => may_flush_oldest_group(b, v),
     }

@@ -1,4 +1,5 @@
 -- Which step a number stands for, and what the instruction that a thread stands at says of its step.
+use Rattle.std.specs.Prelude.{Ok, Err}
 use mathlib.Core.Path.{◌≡◌, refl, sym, ap, ◌∙◌}
 use mathlib.Core.Logic.{◌⊎◌, inl, inr}
 use mathlib.Core.List.{List}
@@ -14,7 +15,6 @@ use Rattle.rules.specs.Kinds.{wait_of}
 use Rattle.rules.specs.Step.{free, may_execute, may_flush, instruction_at, flush_thread, flush_variable, may, flushed, after_execute, after}
 use Rattle.rules.specs.MayLaws.{may_executes, may_flushes, may_flushes_to, none_from_bound, execute_of_thread, execute_of_no_thread, flush_of_variable, flush_of_no_thread, flush_of_no_variable}
 use Rattle.rules.specs.declared.Reason.TheVariants.{NoSuchStep}
-use Rattle.rules.specs.declared.May.TheVariants.{Yes, No}
 use Rattle.rules.specs.File.{job_of}
 use Rattle.rules.specs.Keeps.{capacity_most, stands}
 use Rattle.rules.specs.declared.Model.{Model}
@@ -55,14 +55,14 @@ module _ (j : Job) (x : State) where
   after_of_flush k low = rw (le-ltb k most_threads low)
 
   -- there is no other step
-  pub no_execute : (k : ℕ) → k < most_threads → length j.threads ≤ k → may j k x ≡ No NoSuchStep
+  pub no_execute : (k : ℕ) → k < most_threads → length j.threads ≤ k → may j k x ≡ Err NoSuchStep
   no_execute k h absent = may_executes j x k h ∙ execute_of_no_thread j x k absent
 
   pub no_flush :
-      (k : ℕ) → most_threads ≤ k → (length j.threads ≤ flush_thread k) ⊎ (length j.initial ≤ flush_variable k) → may j k x ≡ No NoSuchStep
+      (k : ℕ) → most_threads ≤ k → (length j.threads ≤ flush_thread k) ⊎ (length j.initial ≤ flush_variable k) → may j k x ≡ Err NoSuchStep
   no_flush k low absent = which (dec_lt k step_bound) absent
     where
-      which : Dec (k < step_bound) → (length j.threads ≤ flush_thread k) ⊎ (length j.initial ≤ flush_variable k) → may j k x ≡ No NoSuchStep
+      which : Dec (k < step_bound) → (length j.threads ≤ flush_thread k) ⊎ (length j.initial ≤ flush_variable k) → may j k x ≡ Err NoSuchStep
       which (no beyond) a = none_from_bound j x k (omega arith)
       which (yes h) (inl a) = may_flushes j x k low h ∙ flush_of_no_thread j x (flush_thread k) (flush_variable k) a
       which (yes h) (inr a) = may_flushes j x k low h ∙ flush_of_no_variable j x (flush_thread k) (flush_variable k) a
@@ -124,7 +124,7 @@ module _ {bytes : List ℕ} {l : Layout} (a : IsAccepted bytes l) (t p : ℕ) {r
     after_by_read e = rw (after_of_execute (job_of bytes) x t thread, ← at, stands_at e, a.laid.model)
 
     pub free_by_read :
-        {i : Instr} → r ≡ Holds i → may (job_of bytes) t x ≡ Yes → free l.model most_pending (wait_of i) (pending t x) ≡ Yes
+        {i : Instr} → r ≡ Holds i → may (job_of bytes) t x ≡ Ok tt → free l.model most_pending (wait_of i) (pending t x) ≡ Ok tt
     unfolding may_execute
     free_by_read {i} e may =
         let j = job_of bytes in

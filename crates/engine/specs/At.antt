@@ -4,10 +4,9 @@ use Rattle.rules.specs.Limits.{most_threads, most_variables, registers_each, all
 use Rattle.rules.specs.State.{Pending}
 use Rattle.rules.specs.State as states
 use Rattle.rules.specs.Job.{Job}
-use Rattle.rules.specs.Step.{may_execute, instruction_at}
+use Rattle.rules.specs.Step.{may_execute, instruction_at, May}
 use Rattle.rules.specs.File.{job_of}
 use Rattle.rules.specs.Sound.{WellFormed}
-use Rattle.rules.specs.declared.May.{May}
 use Rattle.rules.specs.declared.Model.{Model}
 use Rattle.rules.specs.declared.Clause.{Clause}
 use Rattle.rules.specs.declared.Clause.TheVariants.{PlaceIs, RegisterIs, MemoryIs}

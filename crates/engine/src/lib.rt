@@ -1,12 +1,11 @@
 // The machine of a job: its start, the steps that may be taken, what a step does, and its goal.
 #![tactic(auto)]
 
-ghost use Rattle.std.specs.Prelude.{◌≡◌, ◌+◌, ◌*◌, ◌^◌, ◌≤◌, ◌<◌};
+ghost use Rattle.std.specs.Prelude.{◌≡◌, ◌+◌, ◌*◌, ◌^◌, ◌≤◌, ◌<◌, Ok};
 ghost use Rattle.rules.specs.Limits.{most_threads, most_variables};
 ghost use Rattle.rules.specs.State as states;
 ghost use Rattle.rules.specs.Job as jobs;
 ghost use Rattle.rules.specs.Step as steps;
-ghost use Rattle.rules.specs.declared.May.TheVariants.{Yes};
 ghost use Rattle.rules.specs.Goal as goals;
 ghost use Rattle.rules.specs.File.{job_of};
 ghost use Rattle.job.specs.Laid.{IsAccepted};
@@ -18,7 +17,7 @@ ghost use Rattle.engine.specs.At.{At, ClauseOk, blank, FlushesOf, may_execute_at
 use buffer::Buf;
 use job::{Layout, PlaceRead};
 use rules::{
-    Clause, MEMORY_SIZE, MOST_THREADS, MOST_VARIABLES, May, Model, REGISTERS_SIZE, Reason, THREADS,
+    Clause, MEMORY_SIZE, MOST_THREADS, MOST_VARIABLES, Model, REGISTERS_SIZE, Reason, THREADS,
 };
 use state::State;
 use tables::ClauseRead;
@@ -51,7 +50,7 @@ pub fn start(job: &[u8], l: Layout) -> State
 }
 
 // Whether a thread t of the job that is at this place, with these stores pending, may execute, and why not.
-fn may_execute(job: &[u8], l: Layout, t: u8, place: u8, own: Buf) -> May
+fn may_execute(job: &[u8], l: Layout, t: u8, place: u8, own: Buf) -> Result<(), Reason>
     requires accepted { IsAccepted job.now l }
     requires buffer_ok { BufferOk own }
     ensures { result ≡ may_execute_at (job_of job.now) t place (held_pending own) }
@@ -61,12 +60,12 @@ fn may_execute(job: &[u8], l: Layout, t: u8, place: u8, own: Buf) -> May
     let capacity = l.capacity;
     match read {
         PlaceRead::Holds(i) => machine::may_execute(i, model, capacity, own),
-        PlaceRead::Ended => May::No(Reason::ThreadEnded),
+        PlaceRead::Ended => Err(Reason::ThreadEnded),
     }
 }
 
 // Whether step s may be taken, and why not. Threads from T up, variables from V up and numbers from 36 up have no step.
-pub fn may(job: &[u8], l: Layout, x: State, s: u8) -> May
+pub fn may(job: &[u8], l: Layout, x: State, s: u8) -> Result<(), Reason>
     requires { At job.now l x }
     ensures { result ≡ steps.may (job_of job.now) s (held x) }
 {
@@ -85,14 +84,14 @@ pub fn may(job: &[u8], l: Layout, x: State, s: u8) -> May
             }
         }
     }
-    May::No(Reason::NoSuchStep)
+    Err(Reason::NoSuchStep)
 }
 
 // One instruction of thread t, which may execute.
 fn execute(job: &[u8], l: Layout, x: State, t: u8) -> State
     requires at { At job.now l x }
     requires t_lt_most_threads { t < most_threads }
-    requires x_value { steps.may (job_of job.now) t (held x) ≡ Yes }
+    requires x_value { steps.may (job_of job.now) t (held x) ≡ Ok tt }
     ensures { Holds result (steps.after (job_of job.now) t (held x)) }
 {
     let at = state::place(x, t);
@@ -107,7 +106,7 @@ fn execute(job: &[u8], l: Layout, x: State, t: u8) -> State
 // The state after step s, which may be taken.
 pub fn take(job: &[u8], l: Layout, x: State, s: u8) -> State
     requires at { At job.now l x }
-    requires x_value { steps.may (job_of job.now) s (held x) ≡ Yes }
+    requires x_value { steps.may (job_of job.now) s (held x) ≡ Ok tt }
     ensures { Holds result (steps.after (job_of job.now) s (held x)) }
 {
     if s < MOST_THREADS {
@@ -128,7 +127,7 @@ fn executes(job: &[u8], l: Layout, x: State) -> u64
     while t < threads {
         let place = x.places[t as usize];
         let own = x.bufs[t as usize];
-        let on = reasons::is_yes(may_execute(job, l, t, place, own));
+        let on = may_execute(job, l, t, place, own).is_ok();
         mask = bits::with_bit(mask, t, on);
         t += 1;
     }
@@ -150,7 +149,7 @@ fn flushes(model: Model, vars: u8, pending: Buf, t: u8, before: u64) -> u64
     let mut mask = before;
     let mut v: u8 = 0;
     while v < vars {
-        let on = reasons::is_yes(buffer::flush::may_flush(model, pending, v));
+        let on = buffer::flush::may_flush(model, pending, v).is_ok();
         mask = bits::with_bit(mask, MOST_THREADS + MOST_VARIABLES * t + v, on);
         v += 1;
     }

@@ -1,12 +1,11 @@
 -- What the functions for instructions ask: operands that a state has, and room for a store.
-use Rattle.std.specs.Prelude.{◌≡◌, ℕ, ◌<◌, ◌≤◌, true, List, length}
+use Rattle.std.specs.Prelude.{◌≡◌, ℕ, ◌<◌, ◌≤◌, true, List, length, Ok}
 use Rattle.std.proofs.Common.{arith}
 use borrow.Author.Tests.{lt-ltb, ltb-true}
 use Rattle.rules.specs.Limits.{most_variables, group_unit}
 use Rattle.rules.specs.State.{Pending, buffer}
 use Rattle.rules.specs.Step.{joined_group, has_room, free}
 use Rattle.rules.specs.MayLaws.{needs_yes}
-use Rattle.rules.specs.declared.May.TheVariants.{Yes}
 use Rattle.rules.specs.declared.Reason.TheVariants.{BufferFull}
 use Rattle.rules.specs.Sound.{SourceIn, InstrIn}
 use Rattle.rules.specs.Onward.{ControlIn}
@@ -49,7 +48,7 @@ module _ {c d : ℕ} (more : c ≤ d) (b : List Pending) where
   room_more Tso h = lt-ltb (length b) d (omega (arith, ltb-true (length b) c h))
   room_more Pso h = lt-ltb (length b) d (omega (arith, ltb-true (length b) c h))
 
-  pub free_more : (m : Model) (w : Wait) → free m c w b ≡ Yes → free m d w b ≡ Yes
+  pub free_more : (m : Model) (w : Wait) → free m c w b ≡ Ok tt → free m d w b ≡ Ok tt
   unfolding free
   free_more m Never h = h
   free_more m ForRoom h = rw (room_more m (needs_yes _ BufferFull h))

@@ -1,10 +1,9 @@
 // What an instruction does to registers, memory and its thread's buffer, and where its thread goes on.
-ghost use Rattle.std.specs.Prelude.{◌≡◌, ◌+◌, ◌%◌, ◌<◌, true};
+ghost use Rattle.std.specs.Prelude.{◌≡◌, ◌+◌, ◌%◌, ◌<◌, true, Ok};
 ghost use Rattle.rules.specs.Limits.{registers_each, most_variables, most_pending, values};
 ghost use Rattle.rules.specs.State.{pending};
 ghost use Rattle.rules.specs.Kinds.{wait_of};
 ghost use Rattle.rules.specs.Step as rules;
-ghost use Rattle.rules.specs.declared.May.TheVariants.{Yes};
 ghost use Rattle.rules.specs.declared.Model.{Model};
 ghost use Rattle.rules.specs.declared.Instr.TheVariants.{Add, Load, Xchg, Cmpx};
 ghost use Rattle.state.specs.Held.{held};
@@ -126,7 +125,7 @@ fn wfence(m: Model, x: State, t: u8) -> State
 pub fn changed(i: Instr, m: Model, x: State, t: u8) -> State
     requires at { At x t }
     requires instr_ok { InstrOk i }
-    requires x_value { rules.free m most_pending (wait_of i) (pending t (held x)) ≡ Yes }
+    requires x_value { rules.free m most_pending (wait_of i) (pending t (held x)) ≡ Ok tt }
     requires group_fits { GroupFits x t }
     ensures { Holds result (rules.changed m t i (held x)) }
 {

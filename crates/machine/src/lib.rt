@@ -1,27 +1,26 @@
 // The steps of the machine of 01: whether an instruction may be taken, what it does, and what a flush does.
 #![tactic(auto)]
 
-ghost use Rattle.std.specs.Prelude.{◌≡◌, ◌<◌};
+ghost use Rattle.std.specs.Prelude.{◌≡◌, ◌<◌, Ok};
 ghost use Rattle.std.proofs.Math.Option.{some};
 ghost use Rattle.rules.specs.Limits.{most_variables, most_pending};
 ghost use Rattle.rules.specs.State.{pending};
 ghost use Rattle.rules.specs.Kinds.{wait_of};
 ghost use Rattle.rules.specs.Step as rules;
-ghost use Rattle.rules.specs.declared.May.TheVariants.{Yes};
 ghost use Rattle.buffer.specs.Held.{held_pending, BufferOk};
 ghost use Rattle.state.specs.Held.{held};
 ghost use Rattle.state.specs.Parts.{At, Runs, Holds};
 ghost use Rattle.machine.specs.Operands.{InstrOk, GroupFits};
 
 use buffer::Buf;
-use rules::{Instr, May, Model};
+use rules::{Instr, Model, Reason};
 use state::State;
 
 mod effects;
 mod waits;
 
 // Whether instruction i of a thread whose buffer is b may be taken, and why not: no state is made.
-pub fn may_execute(i: Instr, m: Model, capacity: u8, b: Buf) -> May
+pub fn may_execute(i: Instr, m: Model, capacity: u8, b: Buf) -> Result<(), Reason>
     requires { BufferOk b }
     ensures { result ≡ rules.may_execute m capacity (some i) (held_pending b) }
 {
@@ -32,7 +31,7 @@ pub fn may_execute(i: Instr, m: Model, capacity: u8, b: Buf) -> May
 pub fn execute(i: Instr, m: Model, x: State, t: u8) -> State
     requires runs { Runs x t }
     requires instr_ok { InstrOk i }
-    requires x_value { rules.free m most_pending (wait_of i) (pending t (held x)) ≡ Yes }
+    requires x_value { rules.free m most_pending (wait_of i) (pending t (held x)) ≡ Ok tt }
     requires group_fits { GroupFits x t }
     ensures { Holds result (rules.executed m t i (held x)) }
 {

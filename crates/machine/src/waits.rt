@@ -4,7 +4,7 @@ ghost use Rattle.rules.specs.Step as rules;
 ghost use Rattle.buffer.specs.Held.{held_pending, BufferOk};
 
 use buffer::Buf;
-use rules::{May, Model, Reason, Wait};
+use rules::{Model, Reason, Wait};
 
 // Whether there is room for one store more: under SC it goes straight to memory.
 fn has_room(m: Model, capacity: u8, b: Buf) -> bool
@@ -19,12 +19,12 @@ fn has_room(m: Model, capacity: u8, b: Buf) -> bool
 }
 
 // Whether what is waited for is there, and what is missing if not.
-pub fn free(w: Wait, m: Model, capacity: u8, b: Buf) -> May
+pub fn free(w: Wait, m: Model, capacity: u8, b: Buf) -> Result<(), Reason>
     requires { BufferOk b }
     ensures { result ≡ rules.free m capacity w (held_pending b) }
 {
     match w {
-        Wait::Never => May::Yes,
+        Wait::Never => Ok(()),
         Wait::ForRoom => reasons::needs(has_room(m, capacity, b), Reason::BufferFull),
         Wait::UntilEmpty => reasons::needs(buffer::is_empty(b), Reason::BufferNotEmpty),
     }

@@ -1,27 +1,17 @@
-// Why a step is withheld: what a rule asks for, whether a step may be taken at all, and the numbers of the reasons.
+// Why a step is withheld: what a rule asks for, and the numbers of the reasons.
 #![tactic(auto)]
 
 ghost use Rattle.std.specs.Prelude.{◌≡◌};
 ghost use Rattle.rules.specs.Step as rules;
 ghost use Rattle.rules.specs.Reasons.{number_of};
 
-use rules::{May, Reason};
+use rules::Reason;
 
 // A rule asks for this, else it withholds the step for that reason.
-pub fn needs(test: bool, why: Reason) -> May
+pub fn needs(test: bool, why: Reason) -> Result<(), Reason>
     ensures { result ≡ rules.needs test why }
 {
-    if test { May::Yes } else { May::No(why) }
-}
-
-// Whether the step may be taken, whatever the reason if not.
-pub fn is_yes(may: May) -> bool
-    ensures { result ≡ rules.is_yes may }
-{
-    match may {
-        May::Yes => true,
-        May::No(_) => false,
-    }
+    if test { Ok(()) } else { Err(why) }
 }
 
 // The number by which a reason is given.

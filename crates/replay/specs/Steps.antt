@@ -1,5 +1,5 @@
 -- The schedule while it is replayed: the steps before i lead to the state.
-use Rattle.std.specs.Prelude.{◌≡◌, refl, Bool, true, false, List, ℕ, ◌+◌, ◌≤◌, ◌<◌, T, length, take}
+use Rattle.std.specs.Prelude.{◌≡◌, refl, Bool, true, false, List, ℕ, ◌+◌, ◌≤◌, ◌<◌, T, length, take, Ok, Err}
 use Rattle.std.proofs.Common.{sym, ◌∙◌, ap, subst, arith, add-one, take_all}
 use Rattle.std.proofs.Math.Option.{Option, some}
 use Rattle.std.proofs.Math.ListN.{get_or, get_elem?}
@@ -9,7 +9,6 @@ use Rattle.reach.specs.Meaning.{LeadsTo}
 use Rattle.reach.specs.RunLaws.{snoc_run}
 use Rattle.rules.specs.Job.{Job, start}
 use Rattle.rules.specs.Step.{may, after, step, next}
-use Rattle.rules.specs.declared.May.TheVariants.{Yes, No}
 use Rattle.rules.specs.declared.Reason.{Reason}
 use Rattle.rules.specs.Goal.{goal}
 use Rattle.rules.specs.File.{job_of}
@@ -36,7 +35,7 @@ module _ (j : Job) (w : List ℕ) where
     step_at : get_elem? w i ≡ some (get_or w i 0)
     step_at = at_default w i 0 more
 
-    pub stepping_stuck : {why : Reason} → may j (get_or w i 0) (held s) ≡ No why → ReplayFor j w (replayed_words (reach.stuck i why))
+    pub stepping_stuck : {why : Reason} → may j (get_or w i 0) (held s) ≡ Err why → ReplayFor j w (replayed_words (reach.stuck i why))
     unfolding step
     stepping_stuck {why} e =
         record {
@@ -45,7 +44,7 @@ module _ (j : Job) (w : List ℕ) where
           answer = refl;
         }
 
-    pub stepping_on : {y : State} → may j (get_or w i 0) (held s) ≡ Yes → Holds y (after j (get_or w i 0) (held s)) → Stepping y (i + 1)
+    pub stepping_on : {y : State} → may j (get_or w i 0) (held s) ≡ Ok tt → Holds y (after j (get_or w i 0) (held s)) → Stepping y (i + 1)
     unfolding step
     stepping_on {y} e taken =
         let leads : next j (get_or w i 0) (held s) ≡ some (held y) = rw (e, taken.is) in

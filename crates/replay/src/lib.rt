@@ -6,7 +6,7 @@ ghost use Rattle.job.specs.Laid.{IsAccepted};
 ghost use Rattle.replay.specs.Meaning.{words, ReplayFor, ReplayPromise};
 
 use job::{Decoded, Layout};
-use rules::{May, Reason};
+use rules::Reason;
 
 // What a replay answers: the refusal's number and offset; the goal holds at the end, or not; the first step that may not be taken, and why.
 #[derive(Clone, Copy)]
@@ -27,10 +27,10 @@ fn replay_accepted(job: &[u8], schedule: &[u8], l: Layout) -> Answer
     while i < schedule.len() {
         let s = schedule[i];
         match engine::may(job, l, x, s) {
-            May::Yes => {
+            Ok(()) => {
                 x = engine::take(job, l, x, s);
             }
-            May::No(why) => {
+            Err(why) => {
                 return Answer::Stuck(i, why);
             }
         }

@@ -1,5 +1,5 @@
 -- Every state that an accepted job reaches is well formed: the start is, and each step keeps it so.
-use Rattle.std.specs.Prelude.{◌≡◌, Bool, List, [], ◌∷◌, ℕ, ◌+◌, ◌≤◌, ◌<◌, eqb, ltb, get_or}
+use Rattle.std.specs.Prelude.{◌≡◌, Bool, List, [], ◌∷◌, ℕ, ◌+◌, ◌≤◌, ◌<◌, eqb, ltb, get_or, Ok}
 use Rattle.std.proofs.Math.Path.{refl, ap, subst}
 use Rattle.std.proofs.Common.{arith, ltb-true}
 use Rattle.std.proofs.Math.Bool.{true, false, cond}
@@ -23,7 +23,6 @@ use Rattle.rules.specs.Sound.{Value, InstrIn, JobIn, StandsBefore, InOrder, Buff
 use Rattle.rules.specs.BufferLaws.{inserted_length, inserted_all, removed_all, removed_pairwise, at_end, in_its_place_inserted, oldest_taken, counted_all, counted_length, counted_in_order, flush_leaves}
 use Rattle.rules.proofs.BufferLaws.{joins_in_order}
 use Rattle.rules.specs.Onward.{place_after_onward, control_in, onward_in}
-use Rattle.rules.specs.declared.May.TheVariants.{Yes}
 use Rattle.rules.specs.declared.Reason.TheVariants.{NoSuchStep, NothingToFlush, NotTheOldest}
 use Rattle.rules.specs.declared.Model.{Model}
 use Rattle.rules.specs.declared.Model.TheVariants.{Sc, Tso, Pso}
@@ -34,7 +33,7 @@ use Rattle.rules.specs.Keeps.{sum_in, flush_pending, newest_value, flush_mark_in
 -- Buffers.
 
 -- what a flush leaves is in order
-flush_in_order : (m : Model) (v : ℕ) (b : List Pending) → may_flush m v b ≡ Yes → InOrder m b → InOrder m (counted (without_oldest_to v b))
+flush_in_order : (m : Model) (v : ℕ) (b : List Pending) → may_flush m v b ≡ Ok tt → InOrder m b → InOrder m (counted (without_oldest_to v b))
 unfolding may_flush
 flush_in_order Sc v b may o = absurd (no_is_not_yes may)
 flush_in_order Tso v b may o =
@@ -47,7 +46,7 @@ flush_in_order Pso v b may o =
 
 module _ (j : Job) where
   -- a store is flushed: what went to memory, and what is left
-  flushed_in : (v : ℕ) (b : Buffer) → may_flush j.model v b.pending ≡ Yes → BufferIn j b
+  flushed_in : (v : ℕ) (b : Buffer) → may_flush j.model v b.pending ≡ Ok tt → BufferIn j b
       → (v < length j.initial) × Value (width j) (oldest_to v b.pending) × BufferIn j (flushed_buffer v b)
   unfolding flushed_buffer
   flushed_in v b may h =
@@ -85,7 +84,7 @@ module _ (j : Job) (t : ℕ) (used : t < length j.threads) (x : State) (w : Well
       (rw e (joins_in_order (buffer t x) v k (rw e at b.mark) (rw e at b.order)))
 
   changed_keeps : (n : ℕ) (i : Instr) → InstrIn (width j) (length j.initial) n i
-      → free j.model j.capacity (wait_of i) (pending t x) ≡ Yes → WellFormed j (changed j.model t i x)
+      → free j.model j.capacity (wait_of i) (pending t x) ≡ Ok tt → WellFormed j (changed j.model t i x)
   unfolding changed wait_of free
   changed_keeps n (Set r k) h f = with_register_keeps j x w t r k used h.0 h.1
   changed_keeps n (Add u r k) h f =
@@ -104,7 +103,7 @@ module _ (j : Job) (t : ℕ) (used : t < length j.threads) (x : State) (w : Well
       with_register_keeps j _ (compared_keeps j t used x w (eqb (variable v x) (register t r x)) v k h.1 h.2) t r _ used h.0 (variable_value j x w v)
   changed_keeps n Wfence h f = grouped_keeps j t used x w j.model refl
 
-  executed_keeps : (i : Instr) → StandsIn j t (place t x) i → free j.model j.capacity (wait_of i) (pending t x) ≡ Yes
+  executed_keeps : (i : Instr) → StandsIn j t (place t x) i → free j.model j.capacity (wait_of i) (pending t x) ≡ Ok tt
       → WellFormed j (executed j.model t i x)
   unfolding executed
   executed_keeps i h f =
@@ -115,12 +114,12 @@ module _ (j : Job) (t : ℕ) (used : t < length j.threads) (x : State) (w : Well
 
 module _ (j : Job) (ok : JobIn j) (x : State) (w : WellFormed j x) where
   execute_keeps : (t : ℕ) (o : Option Instr) → instruction_at j t (place t x) ≡ o
-      → may_execute j.model j.capacity o (pending t x) ≡ Yes → WellFormed j (after_execute j.model t o x)
+      → may_execute j.model j.capacity o (pending t x) ≡ Ok tt → WellFormed j (after_execute j.model t o x)
   unfolding may_execute after_execute
   execute_keeps t none e may = w
   execute_keeps t (some i) e may = let h = stands j ok t (place t x) i e in executed_keeps j t h.thread x w i h may
 
-  flush_keeps : (t v : ℕ) → may_flush j.model v (pending t x) ≡ Yes → WellFormed j (flushed t v x)
+  flush_keeps : (t v : ℕ) → may_flush j.model v (pending t x) ≡ Ok tt → WellFormed j (flushed t v x)
   unfolding flushed
   flush_keeps t v may =
       let r = flushed_in j v (buffer t x) may (buffer_in j x w t) in
@@ -130,12 +129,12 @@ module _ (j : Job) (ok : JobIn j) (x : State) (w : WellFormed j x) where
       λ beyond. omega (arith, inserted_length i, ap (λ (b : Buffer). length b.pending) (w.buffers_unused t beyond)) in
       with_buffer_keeps j _ (with_variable_keeps j x w v _ r.0 r.1) t _ (omega arith) r.2
 
-  after_keeps : (s : ℕ) → may j s x ≡ Yes → WellFormed j (after j s x)
+  after_keeps : (s : ℕ) → may j s x ≡ Ok tt → WellFormed j (after j s x)
   unfolding may after
   after_keeps s = which (ltb s most_threads)
     where
       which :
-          (b : Bool) → cond b (may_execute_of j s x) (needs (ltb s step_bound) NoSuchStep then may_flush_of j (flush_thread s) (flush_variable s) x) ≡ Yes →
+          (b : Bool) → cond b (may_execute_of j s x) (needs (ltb s step_bound) NoSuchStep then may_flush_of j (flush_thread s) (flush_variable s) x) ≡ Ok tt →
           WellFormed j
           (cond b (after_execute j.model s (instruction_at j s (place s x)) x) (flushed (flush_thread s) (flush_variable s) x))
       which true h = execute_keeps s (instruction_at j s (place s x)) refl (execute_passed j x s h).1

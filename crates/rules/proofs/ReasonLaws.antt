@@ -1,5 +1,5 @@
 -- A step is withheld for the first reason that applies, and given where none does: `Reasons` is met by `Step` `step`, for every job, number and state.
-use Rattle.std.specs.Prelude.{◌≡◌, ◌⊎◌, Bool, [], ℕ, ◌≤◌, ◌<◌, get_or}
+use Rattle.std.specs.Prelude.{◌≡◌, ◌⊎◌, Bool, [], ℕ, ◌≤◌, ◌<◌, get_or, Ok, Err}
 use Rattle.std.proofs.Math.Path.{refl, ap, subst}
 use Rattle.std.proofs.Common.{sym, ◌∙◌}
 use Rattle.std.proofs.Math.Logic.{inl, inr}
@@ -15,7 +15,7 @@ use Rattle.rules.specs.Limits.{most_threads, step_bound}
 use Rattle.rules.specs.State.{State, place, pending}
 use Rattle.rules.specs.Job.{Job}
 use Rattle.rules.specs.Kinds.{wait_of}
-use Rattle.rules.specs.Step.{is_empty, needs, has_room, free, may_execute, instruction_at, flush_thread, flush_variable}
+use Rattle.rules.specs.Step.{is_empty, needs, has_room, free, may_execute, instruction_at, flush_thread, flush_variable, May}
 use Rattle.rules.specs.Step.{may_execute_of, may_flush_of, may, after, by_may, step}
 use Rattle.rules.specs.Reasons.{number_of, same_number, Flushes, Applies, FirstThatApplies}
 use Rattle.rules.specs.MayLaws.{may_executes, may_flushes, none_from_bound, execute_of_thread, execute_of_no_thread, flush_of_variable, flush_of_no_thread, flush_of_no_variable}
@@ -25,8 +25,6 @@ use Rattle.rules.specs.declared.Wait.{Wait}
 use Rattle.rules.specs.declared.Wait.TheVariants.{Never, ForRoom, UntilEmpty}
 use Rattle.rules.specs.declared.Reason.{Reason}
 use Rattle.rules.specs.declared.Reason.TheVariants.{NoSuchStep, ThreadEnded, BufferFull, BufferNotEmpty}
-use Rattle.rules.specs.declared.May.{May}
-use Rattle.rules.specs.declared.May.TheVariants.{Yes, No}
 use Rattle.rules.specs.ReasonLaws.{NoneBelow, none_below_one, none_below_next, empty_is, not_empty, wait_number, waits_store, drain_waits, waits_drain, with_room, without_room, Judged, judged_alike, Executing, Flushing, Beyond, none_executing, not_ended, same_wait, no_store, judged_model, executing_applies, applies_executing, flushing_applies, applies_flushing, beyond_applies, applies_beyond}
 
 module _ (j : Job) (x : State) where
@@ -136,10 +134,10 @@ module _ (j : Job) (x : State) where
     withheld_first why e = which (may j s x) refl e
       where
         which : (m : May) → may j s x ≡ m → by_may m (after j s x) ≡ withheld why → FirstThatApplies j s x why
-        which Yes is d = absurd (none_is_not_some (sym (ap forget d)))
-        which (No because) is d =
+        which (Ok tt) is d = absurd (none_is_not_some (sym (ap forget d)))
+        which (Err because) is d =
             let same : because ≡ why = cc in
-            let h = subst (λ m. Judged (Applies j s x) (No m)) same (judged_step (No because) is) in
+            let h = subst (λ m. Judged (Applies j s x) (Err m)) same (judged_step (Err because) is) in
             record { applies = h.0; none_earlier = h.1 }
 
     -- a step that is given: no reason applies
@@ -148,8 +146,8 @@ module _ (j : Job) (x : State) where
     given_none_applies y e = which (may j s x) refl e
       where
         which : (m : May) → may j s x ≡ m → by_may m (after j s x) ≡ gives y → (why : Reason) → ¬ (Applies j s x why)
-        which Yes is d = judged_step Yes is
-        which (No because) is d = absurd (none_is_not_some (ap forget d))
+        which (Ok tt) is d = judged_step (Ok tt) is
+        which (Err because) is d = absurd (none_is_not_some (ap forget d))
 
     -- and the other way: where a reason is the first that applies, the step is withheld for it
     pub first_withheld : (why : Reason) → FirstThatApplies j s x why → step j s x ≡ withheld why
@@ -171,5 +169,5 @@ module _ (j : Job) (x : State) where
     none_applies_given h = which (may j s x) refl
       where
         which : (m : May) → may j s x ≡ m → by_may m (after j s x) ≡ gives (after j s x)
-        which Yes is = refl
-        which (No because) is = absurd (h because (judged_step (No because) is).0)
+        which (Ok tt) is = refl
+        which (Err because) is = absurd (h because (judged_step (Err because) is).0)

@@ -1,5 +1,5 @@
 -- Every state that an accepted job reaches is well formed: the start is, and each step keeps it so.
-use Rattle.std.specs.Prelude.{◌≡◌, Bool, not, ◌&&◌, List, [], ◌∷◌, ℕ, zero, suc, ◌+◌, ◌-◌, ◌*◌, ◌%◌, ◌≤◌, ◌<◌, eqb, get_or, replicate}
+use Rattle.std.specs.Prelude.{◌≡◌, Bool, not, ◌&&◌, List, [], ◌∷◌, ℕ, zero, suc, ◌+◌, ◌-◌, ◌*◌, ◌%◌, ◌≤◌, ◌<◌, eqb, get_or, replicate, Ok}
 use Rattle.std.proofs.Math.Path.{refl, ap, subst}
 use Rattle.std.proofs.Common.{sym, arith, length-append}
 use Rattle.std.proofs.Math.Bool.{true, false, cond}
@@ -19,7 +19,6 @@ use Rattle.rules.specs.Step.{carried, grouped, instruction_at}
 use Rattle.rules.specs.MayLaws.{no_is_not_yes, needs_yes, then_yes}
 use Rattle.rules.specs.Sound.{Value, SourceIn, InstrIn, CapacityIn, JobIn, InOrder, MarkIn, BufferIn, WellFormed}
 use Rattle.rules.specs.BufferLaws.{of_cond, Inserted, inserted_length, inserted_all, counted_length}
-use Rattle.rules.specs.declared.May.TheVariants.{Yes}
 use Rattle.rules.specs.declared.Width.{Width}
 use Rattle.rules.specs.declared.Width.TheVariants.{One, Two}
 use Rattle.rules.specs.declared.Model.{Model}
@@ -40,7 +39,7 @@ sum_in Two n = omega arith
 -- Buffers.
 
 -- a store that may be flushed is pending, under PSO in the oldest group
-pub flush_pending : (m : Model) (v : ℕ) (b : List Pending) → may_flush m v b ≡ Yes → is_pending_to v b ≡ true
+pub flush_pending : (m : Model) (v : ℕ) (b : List Pending) → may_flush m v b ≡ Ok tt → is_pending_to v b ≡ true
 unfolding may_flush
 flush_pending Sc v b h = absurd (no_is_not_yes h)
 flush_pending Tso v b h = needs_yes (is_pending_to v b) _ (then_yes _ _ h).0

@@ -1,5 +1,5 @@
 -- A step is withheld for the first reason that applies, and given where none does: `Reasons` is met by `Step` `step`, for every job, number and state.
-use Rattle.std.specs.Prelude.{◌≡◌, ◌⊎◌, Bool, ◌&&◌, ◌||◌, List, [], ◌∷◌, ℕ, suc, ◌≤◌, ◌<◌, eqb, get_or}
+use Rattle.std.specs.Prelude.{◌≡◌, ◌⊎◌, Bool, ◌&&◌, ◌||◌, List, [], ◌∷◌, ℕ, suc, ◌≤◌, ◌<◌, eqb, get_or, Ok, Err}
 use Rattle.std.proofs.Math.Path.{refl, ap, subst}
 use Rattle.std.proofs.Common.{sym, ◌∙◌, ltb-true, ltb-false, eqb-true}
 use Rattle.std.proofs.Math.Logic.{inl, inr}
@@ -15,7 +15,7 @@ use Rattle.rules.specs.Limits.{most_threads, step_bound}
 use Rattle.rules.specs.State.{Pending, State, place, pending}
 use Rattle.rules.specs.Job.{Job}
 use Rattle.rules.specs.Kinds.{wait_of}
-use Rattle.rules.specs.Step.{is_empty, needs, ◌then◌, has_room, is_pending_to, is_oldest_to, is_in_oldest_group, may_flush, instruction_at}
+use Rattle.rules.specs.Step.{is_empty, needs, ◌then◌, has_room, is_pending_to, is_oldest_to, is_in_oldest_group, may_flush, instruction_at, May}
 use Rattle.rules.specs.Reasons.{number_of, same_number, Flushes, PendingTo, OldestTo, InOldestGroup, Behind, Stores, Drains, Applies}
 use Rattle.rules.specs.Keeps.{instruction_of_thread}
 use Rattle.rules.specs.declared.Model.{Model}
@@ -26,8 +26,6 @@ use Rattle.rules.specs.declared.Wait.{Wait}
 use Rattle.rules.specs.declared.Wait.TheVariants.{Never, ForRoom, UntilEmpty}
 use Rattle.rules.specs.declared.Reason.{Reason}
 use Rattle.rules.specs.declared.Reason.TheVariants.{NoSuchStep, ThreadEnded, BufferFull, BufferNotEmpty, NothingToFlush, NotTheOldest}
-use Rattle.rules.specs.declared.May.{May}
-use Rattle.rules.specs.declared.May.TheVariants.{Yes, No}
 
 -- The order: one reason after another.
 
@@ -196,12 +194,12 @@ without_room Pso c b e = (λ d. omega (arith, ap model_number d), ltb-false _ _ 
 
 -- A rule's verdict is right: it lets a step pass where no reason holds, and gives the first that does.
 abbrev pub Judged : (Reason → Type 0) → May → Type 0
-Judged P Yes = (why : Reason) → ¬ (P why)
-Judged P (No why) = P why × NoneBelow P (number_of why)
+Judged P (Ok tt) = (why : Reason) → ¬ (P why)
+Judged P (Err why) = P why × NoneBelow P (number_of why)
 
 pub judged_alike : (P Q : Reason → Type 0) → ((why : Reason) → P why → Q why) → ((why : Reason) → Q why → P why) → (m : May) → Judged P m → Judged Q m
-judged_alike P Q to from Yes h = λ why q. h why (from why q)
-judged_alike P Q to from (No why) h = (to why h.0, λ other l q. h.1 other l (from other q))
+judged_alike P Q to from (Ok tt) h = λ why q. h why (from why q)
+judged_alike P Q to from (Err why) h = (to why h.0, λ other l q. h.1 other l (from other q))
 
 none_at_all : (P : Reason → Type 0) → NoneBelow P 7 → (why : Reason) → ¬ (P why)
 none_at_all P h why = h why (numbered_to_six why)

@@ -1,5 +1,5 @@
 -- One step of the machine under each model, and why it can't be taken: 01, "The machine" and "Memory rules", and requests 5, 7 and 10. Rules i to vii are those of source document 003, of a TSO buffer; under SC and PSO 01 changes iv and v.
-use Rattle.std.specs.Prelude.{Bool, true, false, cond, not, ◌&&◌, ◌||◌, List, [], ◌∷◌, ◌++◌, ℕ, zero, suc, ◌+◌, ◌-◌, ◌/◌, ◌%◌, ◌^◌, eqb, ltb, leb, length}
+use Rattle.std.specs.Prelude.{⊤, Result, Ok, Err, Bool, true, false, cond, not, ◌&&◌, ◌||◌, List, [], ◌∷◌, ◌++◌, ℕ, zero, suc, ◌+◌, ◌-◌, ◌/◌, ◌%◌, ◌^◌, eqb, ltb, leb, length}
 use Rattle.std.proofs.Math.Option.{Option, none, some}
 use Rattle.std.proofs.Math.ListN.{get_elem?}
 use Rattle.reach.specs.System.{and_then}
@@ -20,8 +20,6 @@ use Rattle.rules.specs.declared.Wait.{Wait}
 use Rattle.rules.specs.declared.Wait.TheVariants.{Never, ForRoom, UntilEmpty}
 use Rattle.rules.specs.declared.Reason.{Reason}
 use Rattle.rules.specs.declared.Reason.TheVariants.{NoSuchStep, ThreadEnded, BufferFull, BufferNotEmpty, NothingToFlush, NotTheOldest}
-use Rattle.rules.specs.declared.May.{May}
-use Rattle.rules.specs.declared.May.TheVariants.{Yes, No}
 
 -- what is given if the test holds
 abbrev pub given : {A : Type 0} → Bool → A → Option A
@@ -90,21 +88,20 @@ marked_buffer b = record { pending = b.pending; marked = not (is_empty b.pending
 -- Which steps may be taken, and why the others may not: decided here alone. Each reason stands beside the rule that withholds the step. That the
 -- reason given is the first that applies, in the request's order, is a theorem (`Reasons` `FirstThatApplies`, `ReasonLaws` `withheld_first`).
 
+-- whether a step may be taken, or else why not
+abbrev pub May : Type 0
+May = Result ⊤ Reason
+
 -- a rule asks for this, else it withholds the step for that reason
 abbrev pub needs : Bool → Reason → May
-needs true why = Yes
-needs false why = No why
-
--- does it let the step pass?
-abbrev pub is_yes : May → Bool
-is_yes Yes = true
-is_yes (No why) = false
+needs true why = Ok tt
+needs false why = Err why
 
 -- one rule, and then another
 infixr 4 ◌then◌
 abbrev pub ◌then◌ : May → May → May
-Yes then rule = rule
-No why then rule = No why
+Ok tt then rule = rule
+Err why then rule = Err why
 
 -- SC: "Stores go straight to memory." TSO: "it waits while C stores are pending". PSO: "C counts all of a thread's pending stores."
 unfoldable pub has_room : Model → (capacity : ℕ) → List Pending → Bool
@@ -114,13 +111,13 @@ has_room Pso capacity b = ltb (length b) capacity
 
 -- What an instruction waits for in its thread's buffer. A store: "buffer full". FENCE, XCHG and CMPX: "buffer not empty".
 unfoldable pub free : Model → (capacity : ℕ) → Wait → List Pending → May
-free m capacity Never b = Yes
+free m capacity Never b = Ok tt
 free m capacity ForRoom b = needs (has_room m capacity b) BufferFull
 free m capacity UntilEmpty b = needs (is_empty b) BufferNotEmpty
 
 -- "An ended or waiting thread has no execute step": at place n there is no instruction, "thread ended"
 unfoldable pub may_execute : Model → (capacity : ℕ) → Option Instr → List Pending → May
-may_execute m capacity none b = No ThreadEnded
+may_execute m capacity none b = Err ThreadEnded
 may_execute m capacity (some i) b = free m capacity (wait_of i) b
 
 -- is a store to v pending?
@@ -142,7 +139,7 @@ is_in_oldest_group v (p ∷ b) = (eqb p.group 0 && eqb p.variable v) || is_in_ol
 -- the oldest group may flush". "Ended threads still flush." Where none is pending to v, as always under SC: "nothing to flush". Where one is,
 -- but under TSO behind another or under PSO in a later group only: "not the oldest".
 unfoldable pub may_flush : Model → ℕ → List Pending → May
-may_flush Sc v b = No NothingToFlush
+may_flush Sc v b = Err NothingToFlush
 may_flush Tso v b = needs (is_pending_to v b) NothingToFlush then needs (is_oldest_to v b) NotTheOldest
 may_flush Pso v b = needs (is_pending_to v b) NothingToFlush then needs (is_in_oldest_group v b) NotTheOldest
 
@@ -259,8 +256,8 @@ after j s x =
 
 -- y if the step may be taken, else the reason
 abbrev pub by_may : May → State → Stepped State Reason
-by_may Yes y = gives y
-by_may (No why) y = withheld why
+by_may (Ok tt) y = gives y
+by_may (Err why) y = withheld why
 
 -- a step: the state after it, or the reason why it may not be taken
 unfoldable pub step : Job → ℕ → State → Stepped State Reason
@@ -272,8 +269,8 @@ next j s x = forget (step j s x)
 
 -- "The enabled steps are one 64-bit number; bit s is set when step s may be taken": 0 exactly when it has a reason.
 abbrev pub bit : May → ℕ → ℕ
-bit Yes s = 2 ^ s
-bit (No why) s = 0
+bit (Ok tt) s = 2 ^ s
+bit (Err why) s = 0
 
 unfoldable pub enabled_below : Job → State → ℕ → ℕ
 enabled_below j x zero = 0

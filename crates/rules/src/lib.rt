@@ -139,7 +139,7 @@ pub enum Wait {
 }
 
 // Why a step can't be taken, in the order in which the first that applies is given: request 5.
-#[derive(Clone, Copy)]
+#[derive(Clone, Copy, PartialEq, Eq)]
 pub enum Reason {
     NoSuchStep,
     ThreadEnded,
@@ -147,13 +147,6 @@ pub enum Reason {
     BufferNotEmpty,
     NothingToFlush,
     NotTheOldest,
-}
-
-// Whether a step may be taken, and why not.
-#[derive(Clone, Copy)]
-pub enum May {
-    Yes,
-    No(Reason),
 }
 
 // What an instruction is to the fence check: 01, "Replay and fence check".

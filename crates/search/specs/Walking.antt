@@ -1,5 +1,5 @@
 -- The steps of one state, by the mask of those that may be taken: its lowest bit is the next step, and what is passed over may not be taken.
-use Rattle.std.specs.Prelude.{◌≡◌, refl, true}
+use Rattle.std.specs.Prelude.{◌≡◌, refl, true, Ok}
 use Rattle.std.proofs.Common.{sym, ◌∙◌, subst, arith}
 use Rattle.std.proofs.Math.Path.{ap}
 use Rattle.std.proofs.Math.Option.{none, some}
@@ -19,7 +19,6 @@ use Rattle.rules.specs.Job.{Job}
 use Rattle.rules.specs.Slot.{slot_bytes}
 use Rattle.rules.specs.Same.{searchable}
 use Rattle.rules.specs.Step.{may, after, step, next, enabled}
-use Rattle.rules.specs.declared.May.TheVariants.{Yes}
 use Rattle.engine.specs.Mask.{enabled_fits, enabled_may, zero_exactly}
 use Rattle.search.specs.Coded.{coding}
 
@@ -68,7 +67,7 @@ module _ (j : Job) (N q : ℕ) (x : State) where
           which (yes h) = absurd (omega (arith, low.set any, w.gone s h))
           which (no h) = omega arith
 
-      pub step_may : may j s x ≡ Yes
+      pub step_may : may j s x ≡ Ok tt
       step_may = enabled_may j x s (sym (w.kept s not_below) ∙ low.set any)
 
       pub walking_step :

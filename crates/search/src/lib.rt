@@ -4,7 +4,7 @@
 
 pub mod indexed;
 
-ghost use Rattle.std.specs.Prelude.{◌≡◌, ℕ, ◌*◌, ◌≤◌, ◌<◌, length};
+ghost use Rattle.std.specs.Prelude.{◌≡◌, ℕ, ◌*◌, ◌≤◌, ◌<◌, length, Ok};
 ghost use Rattle.reach.specs.Meaning.{link};
 ghost use Rattle.lent.specs.Meaning.{IsAnswered, AnsweredWith};
 ghost use Rattle.lent.specs.Parts.{Stands, FirstGoal};
@@ -14,7 +14,6 @@ ghost use Rattle.rules.specs.Limits.{slot_size, most_slots};
 ghost use Rattle.rules.specs.File.{job_of};
 ghost use Rattle.rules.specs.Slot.{slot_bytes};
 ghost use Rattle.rules.specs.Step.{may, after};
-ghost use Rattle.rules.specs.declared.May.TheVariants.{Yes};
 ghost use Rattle.rules.specs.Machine.{machine};
 ghost use Rattle.job.specs.Laid.{IsAccepted};
 ghost use Rattle.state.specs.Held.{held};
@@ -53,7 +52,7 @@ fn put_next(
     requires fits { Fits slot_size slots table.old links.old index.old width front }
     requires q_lt_most_slots { q < most_slots }
     requires at { At job.now l x }
-    requires x_value { may (job_of job.now) s (held x) ≡ Yes }
+    requires x_value { may (job_of job.now) s (held x) ≡ Ok tt }
     ensures { PutDone slot_size slots table.old links.old front
         (slot_bytes (after (job_of job.now) s (held x))) (link q s) table.new links.new index.new width result }
 {

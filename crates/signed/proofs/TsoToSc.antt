@@ -1,6 +1,6 @@
 -- Each run under TSO of a program that the fence check passes is followed under SC: a store runs at its flush, with the quiet
 -- instructions behind it.
-use Rattle.std.specs.Prelude.{◌≡◌, refl, ◌⊎◌, ℕ, ◌<◌}
+use Rattle.std.specs.Prelude.{◌≡◌, refl, ◌⊎◌, ℕ, ◌<◌, Ok}
 use Rattle.std.proofs.Math.Path.{subst}
 use Rattle.std.proofs.Common.{inl, inr}
 use mathlib.Core.List.{List, [], ◌∷◌, ◌++◌}
@@ -17,7 +17,6 @@ use Rattle.rules.specs.Machine.{machine}
 use Rattle.rules.specs.Fences.{fenced, ChecksTo}
 use Rattle.rules.specs.Sound.{JobIn}
 use Rattle.rules.specs.MayLaws.{no_is_not_yes}
-use Rattle.rules.specs.declared.May.TheVariants.{Yes}
 use Rattle.rules.specs.declared.Model.TheVariants.{Sc, Tso}
 use Rattle.rules.specs.declared.Instr.{Instr}
 use Rattle.signed.specs.Under.{under}
@@ -32,7 +31,7 @@ use Rattle.signed.specs.TsoToSc.{Follows, both_step, quiet_step, open_pair, stor
 module _ (j : Job) (ok : JobIn j) (t : ℕ) (low : t < most_threads) (x y : State) (d : Delayed j x y) where
   module _ (passes : ChecksTo j.threads fenced) (live : AllLive j x) (capacity : ℕ) where
     -- what the role of the instruction allows: with a store pending a load would be open, and a fence waits
-    step_of : (i : Instr) → ByRole i → get_elem? (code j t) (place t y) ≡ some i → free Tso capacity (wait_of i) (pending t y) ≡ Yes
+    step_of : (i : Instr) → ByRole i → get_elem? (code j t) (place t y) ≡ some i → free Tso capacity (wait_of i) (pending t y) ≡ Ok tt
         → (b : List Pending) → pending t y ≡ b → Follows j x (executed Tso t i y)
     unfolding executed free is_empty
     step_of i (is_store a v) at may b e = store_step j ok t low x y d a v at

@@ -1,5 +1,5 @@
 -- Under SC nothing is ever pending, and what one instruction of a thread does is `executed_does`.
-use Rattle.std.specs.Prelude.{◌≡◌, refl, ◌⊎◌, List, [], ℕ, ◌<◌, length, replicate}
+use Rattle.std.specs.Prelude.{◌≡◌, refl, ◌⊎◌, List, [], ℕ, ◌<◌, length, replicate, Ok}
 use Rattle.std.proofs.Common.{ap, ◌∙◌, subst, inl, inr, arith}
 use Rattle.std.proofs.Math.Option.{some}
 use Rattle.std.proofs.Math.ListN.{get_elem?}
@@ -11,7 +11,6 @@ use Rattle.rules.specs.Kinds.{wait_of}
 use Rattle.rules.specs.Step.{has_room, free, is_empty, may_flush, executed, next}
 use Rattle.rules.specs.Sound.{JobIn}
 use Rattle.rules.specs.MayLaws.{no_is_not_yes}
-use Rattle.rules.specs.declared.May.TheVariants.{Yes}
 use Rattle.rules.specs.declared.Model.TheVariants.{Sc}
 use Rattle.rules.specs.declared.Wait.{Wait}
 use Rattle.rules.specs.declared.Wait.TheVariants.{Never, ForRoom, UntilEmpty}
@@ -40,7 +39,7 @@ unfolding start
 start_calm j = record { sized = record { places = refl; registers = refl; buffers = refl }; empty = refl }
 
 -- under SC nothing waits for an empty buffer
-empty_free : (w : Wait) (b : List Pending) → b ≡ [] → free Sc 0 w b ≡ Yes
+empty_free : (w : Wait) (b : List Pending) → b ≡ [] → free Sc 0 w b ≡ Ok tt
 unfolding free has_room is_empty
 empty_free Never b e = refl
 empty_free ForRoom b e = refl

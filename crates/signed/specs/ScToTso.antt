@@ -1,5 +1,5 @@
 -- Each step under SC is one under TSO, and a store is a store and its flush.
-use Rattle.std.specs.Prelude.{◌≡◌, false, ℕ, ◌*◌, ◌+◌, ◌≤◌, ◌<◌}
+use Rattle.std.specs.Prelude.{◌≡◌, false, ℕ, ◌*◌, ◌+◌, ◌≤◌, ◌<◌, Ok}
 use Rattle.std.proofs.Math.Path.{refl, ap}
 use Rattle.std.proofs.Common.{sym, ◌∙◌, subst, arith, get_or-set_same}
 use mathlib.Core.List.{List, [], ◌∷◌, ◌++◌}
@@ -17,7 +17,6 @@ use Rattle.rules.specs.Kinds.{control_of, wait_of}
 use Rattle.rules.specs.Step.{flushed_buffer, counted, oldest_to, without_oldest_to, is_empty, has_room, free, is_pending_to, is_oldest_to, may_flush, carried, stored, changed, place_after, executed, flushed, next}
 use Rattle.rules.specs.Machine.{machine}
 use Rattle.rules.specs.Sound.{JobIn}
-use Rattle.rules.specs.declared.May.TheVariants.{Yes}
 use Rattle.rules.specs.declared.Model.TheVariants.{Sc, Tso}
 use Rattle.rules.specs.declared.Wait.{Wait}
 use Rattle.rules.specs.declared.Wait.TheVariants.{Never, ForRoom, UntilEmpty}
@@ -31,7 +30,7 @@ use Rattle.signed.specs.Calm.{Calm, calm_buffer, calm_pending, sc_ran, sc_calm}
 
 module _ (j : Job) (ok : JobIn j) (c : ℕ) (room : 1 ≤ c) where
   -- with nothing pending there is room, and nothing to wait for
-  nothing_waits : (w : Wait) (b : List Pending) → b ≡ [] → free Tso c w b ≡ Yes
+  nothing_waits : (w : Wait) (b : List Pending) → b ≡ [] → free Tso c w b ≡ Ok tt
   unfolding free has_room is_empty
   nothing_waits Never b e = refl
   nothing_waits ForRoom b e = rw (e, lt-ltb 0 c room)
@@ -74,7 +73,7 @@ module _ (j : Job) (ok : JobIn j) (c : ℕ) (room : 1 ≤ c) where
         let used : v < length j.initial = (instr_in j ok t (place t x) (Store a v) at).1 in
         let small : v < most_variables = omega (arith, used, ok.variables_most) in
         let there : t < length j.threads = at_below j.threads t (code j t) (code_there j t (place t x) (Store a v) at) in
-        let first : may_flush Tso v (pending t (executed Tso t (Store a v) x)) ≡ Yes =
+        let first : may_flush Tso v (pending t (executed Tso t (Store a v) x)) ≡ Ok tt =
         rw (ap (λ (b : Buffer). b.pending) (one_pending a v), eq-eqb v v refl) in (
           t ∷ (most_threads + most_variables * t + v) ∷ [],
           rw (tso_next (Store a v) at, next_flushes (under Tso c j) t v _ low small there used first, flushes a v),

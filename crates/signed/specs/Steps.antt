@@ -1,5 +1,5 @@
 -- A step by its number: thread t at the instruction where it stands, or the flush of thread t's store to v.
-use Rattle.std.specs.Prelude.{◌≡◌, refl, ◌⊎◌, List, [], ◌++◌, ℕ, ◌+◌, ◌*◌, ◌≤◌, ◌<◌, get_or}
+use Rattle.std.specs.Prelude.{◌≡◌, refl, ◌⊎◌, List, [], ◌++◌, ℕ, ◌+◌, ◌*◌, ◌≤◌, ◌<◌, get_or, Ok}
 use Rattle.std.proofs.Math.Path.{sym}
 use Rattle.std.proofs.Common.{◌∙◌, inl, inr}
 use Rattle.std.proofs.Math.Option.{Option, none, some}
@@ -19,7 +19,6 @@ use Rattle.rules.specs.MayLaws.{no_is_not_yes, taken_some, may_executes, may_flu
 use Rattle.rules.specs.Sound.{InstrIn, JobIn}
 use Rattle.rules.specs.Keeps.{instruction_of_thread, stands}
 use Rattle.rules.specs.declared.Instr.{Instr}
-use Rattle.rules.specs.declared.May.TheVariants.{Yes}
 
 -- a run, and a run from where it ends
 pub run_then : (S : System) (u v : List ℕ) (x y z : S.State) → run S u x ≡ some y → run S v y ≡ some z → run S (u ++ v) x ≡ some z
@@ -41,13 +40,13 @@ pub record Ran (j : Job) (t : ℕ) (x y : State) : Type 0 where
   pub low : t < most_threads
   pub instr : Instr
   pub stands : get_elem? (code j t) (place t x) ≡ some instr
-  pub may : free j.model j.capacity (wait_of instr) (pending t x) ≡ Yes
+  pub may : free j.model j.capacity (wait_of instr) (pending t x) ≡ Ok tt
   pub is : executed j.model t instr x ≡ y
 
 -- thread t's store to v may be flushed, and y is the state after it
 pub record Flushed (j : Job) (t v : ℕ) (x y : State) : Type 0 where
   pub low : t < most_threads
-  pub may : may_flush j.model v (pending t x) ≡ Yes
+  pub may : may_flush j.model v (pending t x) ≡ Ok tt
   pub is : flushed t v x ≡ y
 
 module _ (j : Job) where
@@ -55,14 +54,14 @@ module _ (j : Job) where
   instr_in ok t p i e = (stands j ok t p i (instruction_of_thread j t p ∙ e)).operands
 
   pub next_runs : (t : ℕ) (x : State) (i : Instr) → t < most_threads → get_elem? (code j t) (place t x) ≡ some i
-      → free j.model j.capacity (wait_of i) (pending t x) ≡ Yes → next j t x ≡ some (executed j.model t i x)
+      → free j.model j.capacity (wait_of i) (pending t x) ≡ Ok tt → next j t x ≡ some (executed j.model t i x)
   unfolding step after may_execute after_execute
   next_runs t x i low e f =
       let there : t < length j.threads = at_below j.threads t (code j t) (code_there j t (place t x) i e) in
       rw (may_executes j x t low, execute_of_thread j x t there, lt-ltb _ _ low, instruction_of_thread j t (place t x), e, f)
 
   pub next_flushes : (t v : ℕ) (x : State) → t < most_threads → v < most_variables → t < length j.threads → v < length j.initial
-      → may_flush j.model v (pending t x) ≡ Yes → next j (most_threads + most_variables * t + v) x ≡ some (flushed t v x)
+      → may_flush j.model v (pending t x) ≡ Ok tt → next j (most_threads + most_variables * t + v) x ≡ some (flushed t v x)
   unfolding step after flush_thread flush_variable
   next_flushes t v x low small there used f =
       let s = most_threads + most_variables * t + v in
@@ -79,11 +78,11 @@ module _ (j : Job) where
       which (dec_lt s most_threads) (dec_lt s step_bound) g.0 g.1
     where
       runs : s < most_threads → (o : Option Instr) → instruction_at j s (place s x) ≡ o
-          → may_execute j.model j.capacity o (pending s x) ≡ Yes → after_execute j.model s o x ≡ y → Ran j s x y
+          → may_execute j.model j.capacity o (pending s x) ≡ Ok tt → after_execute j.model s o x ≡ y → Ran j s x y
       runs low none at f d = absurd (no_is_not_yes f)
       runs low (some i) at f d = record { low = low; instr = i; stands = sym (instruction_of_thread j s (place s x)) ∙ at; may = f; is = d }
 
-      which : Dec (s < most_threads) → Dec (s < step_bound) → may j s x ≡ Yes → after j s x ≡ y → Ran j s x y ⊎ ((t : ℕ) × (v : ℕ) × Flushed j t v x y)
+      which : Dec (s < most_threads) → Dec (s < step_bound) → may j s x ≡ Ok tt → after j s x ≡ y → Ran j s x y ⊎ ((t : ℕ) × (v : ℕ) × Flushed j t v x y)
       which (yes low) b f d =
           let passed = execute_passed j x s (sym (may_executes j x s low) ∙ f) in
           inl (runs low (instruction_at j s (place s x)) refl passed.1 (rw (lt-ltb _ _ low) at d))

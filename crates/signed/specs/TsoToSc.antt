@@ -1,6 +1,6 @@
 -- Each run under TSO of a program that the fence check passes is followed under SC: a store runs at its flush, with the quiet
 -- instructions behind it.
-use Rattle.std.specs.Prelude.{◌≡◌, refl, ◌≢◌, true, ℕ, ◌<◌, get_or, set}
+use Rattle.std.specs.Prelude.{◌≡◌, refl, ◌≢◌, true, ℕ, ◌<◌, get_or, set, Ok}
 use Rattle.std.proofs.Math.Path.{sym, ap, ap₂, subst}
 use Rattle.std.proofs.Common.{◌∙◌, subst₂, arith, eqb-true}
 use Rattle.std.proofs.Math.Bool.{false}
@@ -21,7 +21,6 @@ use Rattle.rules.specs.FenceCheck.{role_there}
 use Rattle.rules.specs.Sound.{JobIn}
 use Rattle.rules.specs.BufferLaws.{counted_level}
 use Rattle.rules.specs.MayLaws.{needs_yes, then_yes}
-use Rattle.rules.specs.declared.May.TheVariants.{Yes}
 use Rattle.rules.specs.declared.Reason.TheVariants.{NothingToFlush, NotTheOldest}
 use Rattle.rules.specs.declared.Model.TheVariants.{Sc, Tso}
 use Rattle.rules.specs.declared.Role.TheVariants.{Loads}
@@ -175,7 +174,7 @@ unfolding is_oldest_to oldest_to without_oldest_to
 flush_took v [] h = absurd (false≢true h)
 flush_took v (p ∷ b) h = record { oldest = p; rest = b; were = refl; to = eqb-true _ _ h; value = rw h; left = rw h }
 
-pub oldest_flushed : (v : ℕ) (b : List Pending) → may_flush Tso v b ≡ Yes → is_oldest_to v b ≡ true
+pub oldest_flushed : (v : ℕ) (b : List Pending) → may_flush Tso v b ≡ Ok tt → is_oldest_to v b ≡ true
 unfolding may_flush
 oldest_flushed v b h = needs_yes _ NotTheOldest (then_yes (needs (is_pending_to v b) NothingToFlush) (needs (is_oldest_to v b) NotTheOldest) h).1
 

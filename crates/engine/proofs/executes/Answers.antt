@@ -1,8 +1,9 @@
+use Rattle.std.specs.Prelude.{is_ok}
 use mathlib.Core.Path.{refl, sym, ap, ◌∙◌}
 use native.Mathlib.Omega.{arith}
 use Rattle.rules.specs.File.{job_of}
 use Rattle.rules.specs.State.{place}
-use Rattle.rules.specs.Step.{is_yes, enabled_below}
+use Rattle.rules.specs.Step.{enabled_below}
 use Rattle.buffer.specs.Posts.{stores_held}
 use Rattle.state.specs.Held.{held}
 use Rattle.state.proofs.PartLaws.{buffer_read}
@@ -50,7 +51,7 @@ loop-t-preserved c =
     let may =
     c.may_execute.ensures
     ∙ may_of_execute _ _ _ low (thread_there a below) refl (stores_held (buffer_read _ c.requires.ok _ low)) in
-    (omega (arith, below), enabled_more (job_of _) _ _ _ _ _ l.invariant.1 (c.is_yes-on.ensures ∙ ap is_yes may) c.with_bit-mask.ensures)
+    (omega (arith, below), enabled_more (job_of _) _ _ _ _ _ l.invariant.1 (c.is_ok-on.ensures.value ∙ ap is_ok may) c.with_bit-mask.ensures)
 
 pub returns : goal.returns
 returns c =

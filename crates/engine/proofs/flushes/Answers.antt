@@ -1,3 +1,4 @@
+use Rattle.std.specs.Prelude.{is_ok}
 use mathlib.Core.Path.{◌≡◌, ap, sym, ◌∙◌}
 use Prim.Native.Nat.{ℕ, ◌+◌, ◌*◌, ◌≤◌, ◌<◌}
 use native.Mathlib.Nat.{add-zero}
@@ -6,7 +7,7 @@ use native.Mathlib.Omega.{arith}
 use lib.ListN.{length}
 use Rattle.bits.specs.BitLaws.{added_below}
 use Rattle.rules.specs.Limits.{most_threads, most_variables}
-use Rattle.rules.specs.Step.{is_empty, is_yes, enabled_below}
+use Rattle.rules.specs.Step.{is_empty, enabled_below}
 use Rattle.engine.proofs.MaskLaws.{enabled_more, empty_adds_none, absent_variables_add_none}
 use Rattle.engine.proofs.StepLaws.{may_flush_at}
 use Rattle.engine.proofs.flushes.Goals as goal
@@ -38,11 +39,11 @@ loop-v-preserved c =
     let step : ℕ = most_threads + most_variables * c.args.t + l.v in
     let more : most_threads + most_variables * c.args.t + (l.v + 1) ≡ step + 1 = omega arith in (
       omega (arith, below),
-      rw (more, add-one, c.with_bit-mask.ensures) (added_below c.is_yes-on.result _ step l.invariant.1),
+      rw (more, add-one, c.with_bit-mask.ensures) (added_below c.is_ok-on.result _ step l.invariant.1),
       λ j x of e.
           let used : l.v < length j.initial = omega (arith, below, of.variables) in
           let may = c.may_flush.ensures ∙ may_flush_at j x _ _ c.requires.t_lt_most_threads small of.thread used of.model of.stores in
-          rw more (enabled_more j x step _ _ _ (l.invariant.2 j x of e) (c.is_yes-on.ensures ∙ ap is_yes may) c.with_bit-mask.ensures),
+          rw more (enabled_more j x step _ _ _ (l.invariant.2 j x of e) (c.is_ok-on.ensures.value ∙ ap is_ok may) c.with_bit-mask.ensures),
     )
 
 pub returns : goal.returns

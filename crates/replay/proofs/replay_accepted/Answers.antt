@@ -13,18 +13,18 @@ may-requires c = at_step c.requires c.loop-i.invariant
 
 pub take-x-requires : goal.take-x-requires
 take-x-requires c =
-    record { at = at_step c.requires c.loop-i.invariant; x_value = sym c.may.ensures ∙ c.in-Yes.is }
+    record { at = at_step c.requires c.loop-i.invariant; x_value = sym c.may.ensures ∙ c.in-Ok.is }
 
-pub returns-in-No : goal.returns-in-No
-returns-in-No c =
+pub returns-in-Err : goal.returns-in-Err
+returns-in-Err c =
     let below = c.loop-i-test.true in
-    let why = sym c.may.ensures ∙ c.in-No.is in
+    let why = sym c.may.ensures ∙ c.in-Err.is in
     stepping_stuck _ _ c.loop-i.invariant below why
 
 pub loop-i-preserved : goal.loop-i-preserved
 loop-i-preserved c =
     let below = c.loop-i-test.true in
-    let may = sym c.may.ensures ∙ c.in-Yes.is in
+    let may = sym c.may.ensures ∙ c.in-Ok.is in
     stepping_on _ _ c.loop-i.invariant below may c.take-x.ensures
 
 pub goal-requires : goal.goal-requires
