@@ -6,6 +6,7 @@ use Rattle.rules.specs.File.{accepted, refused, decode, held_job, job_of}
 use Rattle.rules.specs.File as file
 use Rattle.rules.specs.declared.Model.{Model}
 use Rattle.job.specs.declared.Layout.{Layout}
+use Rattle.job.specs.declared.parts.Job.{Job}
 use Rattle.job.specs.declared.Starts.{Starts}
 use Rattle.readers.specs.Passed.{At}
 use Rattle.job.specs.Passed.{Accepted, Refused}
@@ -25,6 +26,10 @@ is_accepted bytes m e = let h = go (decode bytes) e in record { decoded = h.0; m
     go : (d : file.Decoded) → answer_of d ≡ Accepted m → (d ≡ accepted (held_job d)) × (m ≡ (held_job d).model)
     go (accepted j) e = let is : j.model ≡ m = cc in (refl, sym is)
     go (refused number offset) e = absurd (let z : ◌≡◌ {A = ℕ} 0 1 = cc in omega arith)
+
+-- what a job carries is all that its laws ask
+pub accepted_job : (j : Job) → IsAccepted j.bytes.now j.layout
+accepted_job j = record { decoded = j.decoded; in_range = j.in_range; laid = j.laid }
 
 -- it refuses by the file's own number and offset
 pub is_refused : (bytes : List ℕ) (number offset : ℕ) → answer_of (decode bytes) ≡ Refused number offset → decode bytes ≡ refused number offset
