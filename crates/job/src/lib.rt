@@ -15,7 +15,7 @@ ghost use Rattle.job.specs.Laid.{HeadGood, AcceptedUnder, IsAccepted};
 
 pub use parts::Job;
 use readers::faults::{Fault, Refusal};
-use readers::{CAPACITY_AT, MODEL_AT, THREADS_AT, VARIABLES_AT, VERSION_AT};
+use readers::{CAPACITY_AT, Code, MODEL_AT, THREADS_AT, VARIABLES_AT, VERSION_AT};
 use rules::{HEAD_SIZE, Model, THREADS};
 use threads::Threads;
 
@@ -50,7 +50,12 @@ fn behind_head(job: &[u8]) -> Result<usize, Fault>
         let whole = (job.len() - HEAD_SIZE) / size;
         return Err(Refusal::NotWhole.at(HEAD_SIZE + size * whole));
     }
-    readers::threads(job, job[VERSION_AT], vars, job[THREADS_AT], start)?;
+    Code {
+        job,
+        version: job[VERSION_AT],
+        vars,
+    }
+    .threads(job[THREADS_AT], start)?;
     let starts = threads::starts(job);
     goal::goal(&Threads {
         job,

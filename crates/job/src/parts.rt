@@ -10,7 +10,7 @@ ghost use Rattle.job.specs.Laid.{Laid};
 
 use crate::threads::Threads;
 use crate::{Layout, goal};
-use readers::{VARIABLES_AT, VERSION_AT};
+use readers::{Code, VARIABLES_AT, VERSION_AT};
 use rules::{Clause, HEAD_SIZE, Instr};
 
 // Bytes that are a job, and where its parts stand in them.
@@ -50,13 +50,12 @@ impl<'a> Job<'a> {
             return None;
         }
         let at = self.threads().instruction_start(t, p);
-        readers::instruction_from(
-            self.bytes,
-            self.bytes[VERSION_AT],
-            self.bytes[VARIABLES_AT],
-            n,
-            at,
-        )
+        let code = Code {
+            job: self.bytes,
+            version: self.bytes[VERSION_AT],
+            vars: self.bytes[VARIABLES_AT],
+        };
+        code.instruction_from(n, at)
     }
 
     // Whether the goal asks that all buffers are empty.

@@ -179,32 +179,11 @@ pub fn item_at(job: &[u8], w: Width, at: usize) -> Item
     }
 }
 
-// The bytes from `at` as an instruction, if they are one.
-pub fn instruction_from(job: &[u8], version: u8, vars: u8, n: u8, at: usize) -> Option<Instr>
-    requires { at + item_size (width_of version) ≤ length job.now }
-    ensures { told result ≡ instruction_in_bytes job.now version vars n at }
-{
-    tables::instruction(version, vars, n, item_at(job, tables::width(version), at))
-}
-
 // Whether so many bytes are there from `at`.
 pub fn is_there(job: &[u8], at: usize, size: usize) -> bool
     ensures { result ≡ leb (at + size) (length job.now) }
 {
     size <= job.len() && at <= job.len() - size
-}
-
-fn instruction(job: &[u8], version: u8, vars: u8, n: u8, at: usize) -> Result<usize, Fault>
-    ensures { came_to result ≡ passed (file.instruction job.now version vars n at) }
-{
-    let size = item_size(tables::width(version));
-    if !is_there(job, at, size) {
-        return Err(Refusal::NotWhole.at(at));
-    }
-    match instruction_from(job, version, vars, n, at) {
-        Some(_) => Ok(at + size),
-        None => Err(Refusal::ThreadBad.at(at)),
-    }
 }
 
 // So many items, each from where the one before it ended, up to the first fault.
@@ -223,17 +202,49 @@ pub fn times<F: Fn(usize) -> Result<usize, Fault>>(
     Ok(at)
 }
 
-// n, and then as many instructions.
-fn thread(job: &[u8], version: u8, vars: u8, at: usize) -> Result<usize, Fault>
-    ensures { came_to result ≡ passed (file.thread job.now version vars at) }
-{
-    let next = field(job, at, Refusal::ThreadBad, 0, LONGEST_THREAD)?;
-    let n = job[at];
-    times(n, next, |at| instruction(job, version, vars, n, at))
+// The threads of a file whose head has this version and so many variables.
+#[derive(Clone, Copy)]
+pub struct Code<'a> {
+    pub job: &'a [u8],
+    pub version: u8,
+    pub vars: u8,
 }
 
-pub fn threads(job: &[u8], version: u8, vars: u8, count: u8, start: usize) -> Result<usize, Fault>
-    ensures { came_to result ≡ passed (file.times count (file.thread job.now version vars) start) }
-{
-    times(count, start, |at| thread(job, version, vars, at))
+impl<'a> Code<'a> {
+    // The bytes from `at` as an instruction of a thread of length n, if they are one.
+    pub fn instruction_from(&self, n: u8, at: usize) -> Option<Instr>
+        requires { at + item_size (width_of self.now.version) ≤ length self.now.job.now }
+        ensures { told result ≡ instruction_in_bytes self.now.job.now self.now.version self.now.vars n at }
+    {
+        let i = item_at(self.job, tables::width(self.version), at);
+        tables::instruction(self.version, self.vars, n, i)
+    }
+
+    fn instruction(&self, n: u8, at: usize) -> Result<usize, Fault>
+        ensures { came_to result ≡ passed (file.instruction self.now.job.now self.now.version self.now.vars n at) }
+    {
+        let size = item_size(tables::width(self.version));
+        if !is_there(self.job, at, size) {
+            return Err(Refusal::NotWhole.at(at));
+        }
+        match self.instruction_from(n, at) {
+            Some(_) => Ok(at + size),
+            None => Err(Refusal::ThreadBad.at(at)),
+        }
+    }
+
+    // n, and then as many instructions.
+    fn thread(&self, at: usize) -> Result<usize, Fault>
+        ensures { came_to result ≡ passed (file.thread self.now.job.now self.now.version self.now.vars at) }
+    {
+        let next = field(self.job, at, Refusal::ThreadBad, 0, LONGEST_THREAD)?;
+        let n = self.job[at];
+        times(n, next, |at| self.instruction(n, at))
+    }
+
+    pub fn threads(&self, count: u8, start: usize) -> Result<usize, Fault>
+        ensures { came_to result ≡ passed (file.times count (file.thread self.now.job.now self.now.version self.now.vars) start) }
+    {
+        times(count, start, |at| self.thread(at))
+    }
 }

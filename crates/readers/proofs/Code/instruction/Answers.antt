@@ -1,4 +1,4 @@
--- `readers::instruction` meets its contract: the bytes of an item are there or not, and then the table decides.
+-- `readers::Code::instruction` meets its contract: the bytes of an item are there or not, and then the table decides.
 use mathlib.Core.Path.{◌≡◌, sym, ap, ◌∙◌}
 use mathlib.Core.Option.{some, none}
 use Prim.Native.Nat.{◌+◌, ◌≤◌}
@@ -10,15 +10,15 @@ use Rattle.rules.specs.File.{instruction, byte, judged}
 use Rattle.tables.specs.Told.{told}
 use Rattle.readers.specs.Passed.{passed}
 use Rattle.readers.proofs.Readers.{item_judged, item_missing}
-use Rattle.readers.proofs.instruction.Goals as goal
-use Rattle.readers.proofs.instruction.Goals.{After-is_there, Else-not-is_there}
+use Rattle.readers.proofs.Code.instruction.Goals as goal
+use Rattle.readers.proofs.Code.instruction.Goals.{After-is_there, Else-not-is_there}
 
 -- the bytes asked for are those of an item
-asked : (c : After-is_there) → c.item_size-size.result ≡ item_size (width_of c.args.version)
+asked : (c : After-is_there) → c.item_size-size.result ≡ item_size (width_of c.args.self.now.version)
 asked c = c.item_size-size.ensures ∙ ap item_size c.width.ensures
 
 there :
-    (c : Else-not-is_there) → c.args.at + item_size (width_of c.args.version) ≤ length c.args.job.now
+    (c : Else-not-is_there) → c.args.at + item_size (width_of c.args.self.now.version) ≤ length c.args.self.now.job.now
 there c = rw (← (c.item_size-size.ensures ∙ ap item_size c.width.ensures)) (leb-true _ _ (sym c.is_there.ensures ∙ c.if-not-is_there.false))
 
 pub overflow_add-result : goal.overflow_add-result
