@@ -1,12 +1,13 @@
 -- A test of every element, made from the front on: what is left to test decides while all before it passed.
-use mathlib.Core.Path.{◌≡◌}
+use mathlib.Core.Path.{◌≡◌, refl, ap}
 use mathlib.Core.Bool.{Bool, true, ◌&&◌}
-use mathlib.Core.List.{List, ◌∷◌}
+use mathlib.Core.List.{List, [], ◌∷◌, map}
 use mathlib.Core.Option.{some}
 use Prim.Native.Nat.{ℕ, ◌+◌, ◌≤◌, ◌<◌}
 use native.Mathlib.Numerals.{add-one}
 use lib.ListN.{length, drop, get_elem?, drop_of_length-le}
 use lib.Seq.{drop-cons}
+use Rattle.std.specs.List.{list_all}
 use Rattle.reach.specs.ListLaws.{at_below, at_get_or}
 use Rattle.rules.specs.Goal.{every}
 
@@ -24,3 +25,9 @@ module _ {A : Type 0} (f : A → Bool) (l : List A) (i : ℕ) where
   pub tests_end : length l ≤ i → every f (drop i l) ≡ true
   unfolding every
   tests_end h = rw (drop_of_length-le l h)
+
+-- a test of each value that is held, made of what holds it
+pub every_held : {A B : Type 0} (f : B → Bool) (g : A → B) (l : List A) → list_all (λ a. f (g a)) l ≡ every f (map g l)
+unfolding every
+every_held f g [] = refl
+every_held f g (a ∷ l) = ap (λ b. f (g a) && b) (every_held f g l)

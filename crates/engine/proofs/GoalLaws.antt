@@ -5,7 +5,7 @@ use mathlib.Core.List.{List}
 use mathlib.Core.Option.{some, none-ne-some}
 use Prim.Native.Nat.{ℕ, ◌≤◌, ◌<◌}
 use native.Mathlib.Omega.{arith}
-use lib.ListN.{length, get_elem?, length-map}
+use lib.ListN.{length, get_or, get_elem?, length-map}
 use Rattle.reach.specs.ListLaws.{all_at, at_in, below_at, at_default}
 use Rattle.rules.specs.Limits.{most_threads, most_variables}
 use Rattle.rules.specs.State as states
@@ -18,7 +18,7 @@ use Rattle.rules.specs.declared.Width.{Width}
 use Rattle.rules.specs.declared.Clause.{Clause}
 use Rattle.rules.specs.declared.Clause.TheVariants.{PlaceIs, RegisterIs, MemoryIs}
 use Rattle.rules.specs.declared.Instr.{Instr}
-use Rattle.buffer.specs.Held.{held_pending, held_buffer}
+use Rattle.buffer.specs.Held.{held_pending, held_buffer, BufferOk}
 use Rattle.buffer.specs.Posts.{Holds as HoldsBuffer}
 use Rattle.buffer.specs.declared.Buf.{Buf}
 use Rattle.tables.specs.Told.{goal_clause_of}
@@ -36,6 +36,10 @@ module _ (s : State) (ok : StateOk s) where
   pub buffer_at : (t : ℕ) → t < most_threads → get_elem? (held s).buffers t ≡ some (states.buffer t (held s))
   unfolding states.buffer
   buffer_at t h = at_default (held s).buffers t states.empty_buffer (omega (arith, buffers_held))
+
+  -- each buffer is as it should be
+  pub buffer_ok : (b : Buf) (t : ℕ) → t < length s.bufs → b ≡ get_or s.bufs t b → BufferOk b
+  buffer_ok b t h is = all_at BufferOk s.bufs ok.buffers b (at_in s.bufs t b (at_default s.bufs t b h ∙ ap some (sym is)))
 
 -- a buffer's value is empty where its pending stores are none
 pub empty_as : {x : Buffer} {b : Buf} {e f : Bool} → HoldsBuffer b x → e ≡ is_empty (held_pending b) → e ≡ f → nothing_pending x ≡ f

@@ -26,12 +26,11 @@ use tables::ClauseRead;
 fn blank() -> State
     ensures { Holds result blank }
 {
-    let none = buffer::empty();
     State {
         places: [0; THREADS],
         regs: [0; REGISTERS_SIZE],
         mem: [0; MEMORY_SIZE],
-        bufs: [none, none, none, none],
+        bufs: [buffer::empty(); THREADS],
     }
 }
 
@@ -41,10 +40,8 @@ pub fn start(job: &[u8], l: Layout) -> State
     ensures { Holds result (jobs.start (job_of job.now)) }
 {
     let mut x = blank();
-    let mut cell: u8 = 0;
-    while cell < MOST_VARIABLES {
+    for cell in 0..MOST_VARIABLES {
         x = state::with_variable(x, cell, job::parts::initial(job, l, cell));
-        cell += 1;
     }
     x
 }
@@ -55,11 +52,8 @@ fn may_execute(job: &[u8], l: Layout, t: u8, place: u8, own: Buf) -> Result<(), 
     requires buffer_ok { BufferOk own }
     ensures { result ≡ may_execute_at (job_of job.now) t place (held_pending own) }
 {
-    let read = job::parts::instruction_at(job, l, t, place);
-    let model = l.model;
-    let capacity = l.capacity;
-    match read {
-        PlaceRead::Holds(i) => machine::may_execute(i, model, capacity, own),
+    match job::parts::instruction_at(job, l, t, place) {
+        PlaceRead::Holds(i) => machine::may_execute(i, l.model, l.capacity, own),
         PlaceRead::Ended => Err(Reason::ThreadEnded),
     }
 }
@@ -77,11 +71,8 @@ pub fn may(job: &[u8], l: Layout, x: State, s: u8) -> Result<(), Reason>
         let flush = s - MOST_THREADS;
         let t = flush / MOST_VARIABLES;
         let v = flush % MOST_VARIABLES;
-        if t < l.threads {
-            if v < l.vars {
-                let model = l.model;
-                return buffer::flush::may_flush(model, state::buffer(x, t), v);
-            }
+        if t < l.threads && v < l.vars {
+            return buffer::flush::may_flush(l.model, state::buffer(x, t), v);
         }
     }
     Err(Reason::NoSuchStep)
@@ -90,15 +81,12 @@ pub fn may(job: &[u8], l: Layout, x: State, s: u8) -> Result<(), Reason>
 // One instruction of thread t, which may execute.
 fn execute(job: &[u8], l: Layout, x: State, t: u8) -> State
     requires at { At job.now l x }
-    requires t_lt_most_threads { t < most_threads }
-    requires x_value { steps.may (job_of job.now) t (held x) ≡ Ok tt }
+    requires is_thread { t < most_threads }
+    requires may_be_taken { steps.may (job_of job.now) t (held x) ≡ Ok tt }
     ensures { Holds result (steps.after (job_of job.now) t (held x)) }
 {
-    let at = state::place(x, t);
-    let read = job::parts::instruction_at(job, l, t, at);
-    let model = l.model;
-    match read {
-        PlaceRead::Holds(i) => machine::execute(i, model, x, t),
+    match job::parts::instruction_at(job, l, t, state::place(x, t)) {
+        PlaceRead::Holds(i) => machine::execute(i, l.model, x, t),
         PlaceRead::Ended => x,
     }
 }
@@ -106,7 +94,7 @@ fn execute(job: &[u8], l: Layout, x: State, t: u8) -> State
 // The state after step s, which may be taken.
 pub fn take(job: &[u8], l: Layout, x: State, s: u8) -> State
     requires at { At job.now l x }
-    requires x_value { steps.may (job_of job.now) s (held x) ≡ Ok tt }
+    requires may_be_taken { steps.may (job_of job.now) s (held x) ≡ Ok tt }
     ensures { Holds result (steps.after (job_of job.now) s (held x)) }
 {
     if s < MOST_THREADS {
@@ -121,15 +109,12 @@ fn executes(job: &[u8], l: Layout, x: State) -> u64
     requires { At job.now l x }
     ensures { result ≡ steps.enabled_below (job_of job.now) (held x) most_threads }
 {
-    let threads = l.threads;
-    let mut mask: u64 = 0;
-    let mut t: u8 = 0;
-    while t < threads {
+    let mut mask = 0;
+    for t in 0..l.threads {
         let place = x.places[t as usize];
         let own = x.bufs[t as usize];
         let on = may_execute(job, l, t, place, own).is_ok();
         mask = bits::with_bit(mask, t, on);
-        t += 1;
     }
     mask
 }
@@ -137,9 +122,9 @@ fn executes(job: &[u8], l: Layout, x: State) -> u64
 // The flush steps of a thread t with these stores pending, to so many variables, behind the bits of the steps before them.
 fn flushes(model: Model, vars: u8, pending: Buf, t: u8, before: u64) -> u64
     requires buffer_ok { BufferOk pending }
-    requires vars_le_most_variables { vars ≤ most_variables }
-    requires t_lt_most_threads { t < most_threads }
-    requires before_bound { before < 2 ^ (most_threads + most_variables * t) }
+    requires few_variables { vars ≤ most_variables }
+    requires is_thread { t < most_threads }
+    requires only_steps_before { before < 2 ^ (most_threads + most_variables * t) }
     ensures { (j : jobs.Job) (x : states.State) → FlushesOf j x model vars t (held_pending pending) →
         before ≡ steps.enabled_below j x (most_threads + most_variables * t) → result ≡ steps.enabled_below j x (most_threads + most_variables * (t + 1)) }
 {
@@ -147,11 +132,9 @@ fn flushes(model: Model, vars: u8, pending: Buf, t: u8, before: u64) -> u64
         return before;
     }
     let mut mask = before;
-    let mut v: u8 = 0;
-    while v < vars {
+    for v in 0..vars {
         let on = buffer::flush::may_flush(model, pending, v).is_ok();
         mask = bits::with_bit(mask, MOST_THREADS + MOST_VARIABLES * t + v, on);
-        v += 1;
     }
     mask
 }
@@ -161,15 +144,9 @@ pub fn enabled(job: &[u8], l: Layout, x: State) -> u64
     requires { At job.now l x }
     ensures { result ≡ steps.enabled (job_of job.now) (held x) }
 {
-    let model = l.model;
-    let threads = l.threads;
-    let vars = l.vars;
     let mut mask = executes(job, l, x);
-    let mut t: u8 = 0;
-    while t < threads {
-        let pending = x.bufs[t as usize];
-        mask = flushes(model, vars, pending, t, mask);
-        t += 1;
+    for t in 0..l.threads {
+        mask = flushes(l.model, l.vars, x.bufs[t as usize], t, mask);
     }
     mask
 }
@@ -179,15 +156,7 @@ fn all_empty(x: State) -> bool
     requires { StateOk x }
     ensures { result ≡ goals.every goals.nothing_pending (held x).buffers }
 {
-    let mut t: u8 = 0;
-    while t < MOST_THREADS {
-        let stores = x.bufs[t as usize];
-        if !buffer::is_empty(stores) {
-            return false;
-        }
-        t += 1;
-    }
-    true
+    x.bufs.iter().all(|stores| buffer::is_empty(*stores))
 }
 
 fn clause_holds(x: State, c: Clause) -> bool
@@ -207,21 +176,14 @@ fn clauses_hold(job: &[u8], l: Layout, x: State) -> bool
     requires { At job.now l x }
     ensures { result ≡ goals.every (goals.clause_holds (held x)) (job_of job.now).clauses }
 {
-    let count = job::parts::clause_count(job, l);
-    let mut i: u8 = 0;
-    while i < count {
-        match job::parts::clause_at(job, l, i) {
-            ClauseRead::Good(c) => {
-                if !clause_holds(x, c) {
-                    return false;
-                }
-            }
-            // There is one for each i below the count; if there weren't, a goal is the side to err on.
-            ClauseRead::Bad => {
-                return true;
-            }
+    for i in 0..job::parts::clause_count(job, l) {
+        // There is one for each i below the count; if there weren't, a goal is the side to err on.
+        let ClauseRead::Good(c) = job::parts::clause_at(job, l, i) else {
+            return true;
+        };
+        if !clause_holds(x, c) {
+            return false;
         }
-        i += 1;
     }
     true
 }
@@ -231,10 +193,8 @@ pub fn goal(job: &[u8], l: Layout, x: State) -> bool
     requires { At job.now l x }
     ensures { result ≡ goals.goal (job_of job.now) (held x) }
 {
-    if job::parts::flag(job, l) {
-        if !all_empty(x) {
-            return false;
-        }
+    if job::parts::flag(job, l) && !all_empty(x) {
+        return false;
     }
     clauses_hold(job, l, x)
 }

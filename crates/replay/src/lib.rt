@@ -23,18 +23,11 @@ fn replay_accepted(job: &[u8], schedule: &[u8], l: Layout) -> Answer
     ensures { ReplayFor (job_of job.now) schedule.now (words result) }
 {
     let mut x = engine::start(job, l);
-    let mut i = 0;
-    while i < schedule.len() {
-        let s = schedule[i];
-        match engine::may(job, l, x, s) {
-            Ok(()) => {
-                x = engine::take(job, l, x, s);
-            }
-            Err(why) => {
-                return Answer::Stuck(i, why);
-            }
+    for (i, &s) in schedule.iter().enumerate() {
+        if let Err(why) = engine::may(job, l, x, s) {
+            return Answer::Stuck(i, why);
         }
-        i += 1;
+        x = engine::take(job, l, x, s);
     }
     if engine::goal(job, l, x) {
         Answer::Reaches

@@ -3,4 +3,4 @@ use Rattle.engine.proofs.StartLaws.{blank_held}
 use Rattle.engine.proofs.blank.Goals as goal
 
 pub returns : goal.returns
-returns c = blank_held _ c.empty-none.ensures
+returns c = blank_held _ c.empty.ensures

@@ -1,6 +1,5 @@
 -- `engine::clauses_hold` meets its contract. The invariant: the clauses from i on decide.
 use mathlib.Core.Path.{◌≡◌}
-use Prim.Native.Nat.{◌-◌}
 use lib.ListN.{drop}
 use Rattle.rules.specs.File.{job_of}
 use Rattle.rules.specs.Goal.{every, clause_holds}
@@ -9,6 +8,3 @@ use Rattle.engine.proofs.clauses_hold.Given as goal
 
 abbrev pub invariant-loop-i : goal.invariant-loop-i
 invariant-loop-i l = every (clause_holds (held l.x)) (job_of l.job).clauses ≡ every (clause_holds (held l.x)) (drop l.i (job_of l.job).clauses)
-
-abbrev pub decreases-loop-i : goal.decreases-loop-i
-decreases-loop-i l = l.count - l.i

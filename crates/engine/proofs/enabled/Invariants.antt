@@ -1,6 +1,6 @@
 -- `engine::enabled` meets its contract. The invariant: the mask has the enabled steps below 4 + 8t. Threads from T up have none.
 use mathlib.Core.Path.{◌≡◌}
-use Prim.Native.Nat.{◌+◌, ◌-◌, ◌*◌, ◌≤◌}
+use Prim.Native.Nat.{◌+◌, ◌*◌}
 use Rattle.rules.specs.Limits.{most_threads, most_variables}
 use Rattle.rules.specs.File.{job_of}
 use Rattle.rules.specs.Step.{enabled_below}
@@ -8,7 +8,4 @@ use Rattle.state.specs.Held.{held}
 use Rattle.engine.proofs.enabled.Given as goal
 
 abbrev pub invariant-loop-t : goal.invariant-loop-t
-invariant-loop-t l = (l.t ≤ l.threads) × (l.mask ≡ enabled_below (job_of l.job) (held l.x) (most_threads + most_variables * l.t))
-
-abbrev pub decreases-loop-t : goal.decreases-loop-t
-decreases-loop-t l = l.threads - l.t
+invariant-loop-t l = l.mask ≡ enabled_below (job_of l.job) (held l.x) (most_threads + most_variables * l.t)

@@ -1,13 +1,9 @@
 -- `engine::executes` meets its contract. The invariant: the mask has the enabled steps below t. Threads from T up have none.
 use mathlib.Core.Path.{◌≡◌}
-use Prim.Native.Nat.{◌-◌, ◌≤◌}
 use Rattle.rules.specs.File.{job_of}
 use Rattle.rules.specs.Step.{enabled_below}
 use Rattle.state.specs.Held.{held}
 use Rattle.engine.proofs.executes.Given as goal
 
 abbrev pub invariant-loop-t : goal.invariant-loop-t
-invariant-loop-t l = (l.t ≤ l.threads) × (l.mask ≡ enabled_below (job_of l.job) (held l.x) l.t)
-
-abbrev pub decreases-loop-t : goal.decreases-loop-t
-decreases-loop-t l = l.threads - l.t
+invariant-loop-t l = l.mask ≡ enabled_below (job_of l.job) (held l.x) l.t

@@ -1,6 +1,6 @@
 -- `engine::flushes` meets its contract. The invariant: the mask has the enabled steps below 4 + 8t + v. Variables from V up have none.
 use mathlib.Core.Path.{◌≡◌}
-use Prim.Native.Nat.{◌+◌, ◌-◌, ◌*◌, ◌^◌, ◌≤◌, ◌<◌}
+use Prim.Native.Nat.{◌+◌, ◌*◌, ◌^◌, ◌<◌}
 use Rattle.rules.specs.Limits.{most_threads, most_variables}
 use Rattle.rules.specs.State.{State}
 use Rattle.rules.specs.Job.{Job}
@@ -10,10 +10,6 @@ use Rattle.engine.specs.At.{FlushesOf}
 use Rattle.engine.proofs.flushes.Given as goal
 
 abbrev pub invariant-loop-v : goal.invariant-loop-v
-invariant-loop-v l = (l.v ≤ l.vars)
-    × (l.mask < 2 ^ (most_threads + most_variables * l.t + l.v))
+invariant-loop-v l = (l.mask < 2 ^ (most_threads + most_variables * l.t + l.v))
     × ((j : Job) (x : State) → FlushesOf j x l.model l.vars l.t (held_pending l.pending) →
     l.before ≡ enabled_below j x (most_threads + most_variables * l.t) → l.mask ≡ enabled_below j x (most_threads + most_variables * l.t + l.v))
-
-abbrev pub decreases-loop-v : goal.decreases-loop-v
-decreases-loop-v l = l.vars - l.v

@@ -3,7 +3,7 @@ use mathlib.Core.Path.{sym, ◌∙◌}
 use Rattle.rules.specs.File.{job_of}
 use Rattle.engine.proofs.GoalLaws.{goal_flag_on, goal_flag_off}
 use Rattle.engine.proofs.goal.Goals as goal
-use Rattle.engine.proofs.goal.Goals.{then-flag+else-not-all_empty, else-flag}
+use Rattle.engine.proofs.goal.Goals.{else-flag-via-then-flag+else-not-all_empty, else-flag-via-else-flag}
 
 pub returns-then-not-all_empty : goal.returns-then-not-all_empty
 returns-then-not-all_empty c =
@@ -17,8 +17,8 @@ returns c =
     let flag = c.flag.ensures in
     c.clauses_hold.ensures
     ∙ sym
-    (elim c.if-flag.branch [
-      | then-flag+else-not-all_empty w ↦
+    (elim c.else-flag.branch [
+      | else-flag-via-then-flag+else-not-all_empty w ↦
           goal_flag_on (job_of _) _ (sym flag ∙ w.if-flag.true) (sym w.all_empty.ensures ∙ w.if-not-all_empty.false)
-      | else-flag w ↦ goal_flag_off (job_of _) _ (sym flag ∙ w.if-flag.false)
+      | else-flag-via-else-flag w ↦ goal_flag_off (job_of _) _ (sym flag ∙ w.if-flag.false)
     ])

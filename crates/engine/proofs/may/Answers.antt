@@ -5,16 +5,7 @@ use Rattle.buffer.specs.Posts.{stores_held}
 use Rattle.rules.specs.Step.{flush_thread, flush_variable}
 use Rattle.engine.proofs.StepLaws.{may_of_execute, may_of_flush, no_execute, no_flush, few_threads, thread_there, thread_low, thread_absent, variable_there, variable_absent}
 use Rattle.engine.proofs.may.Goals as goal
-
-pub place-requires : goal.place-requires
-place-requires c =
-    let a = c.requires.accepted in
-    record { ok = c.requires.ok; thread = thread_low a c.if-s-l.true }
-
-pub buffer-requires : goal.buffer-requires
-buffer-requires c =
-    let a = c.requires.accepted in
-    record { ok = c.requires.ok; thread = thread_low a c.if-s-l.true }
+use Rattle.engine.proofs.may.Goals.{else-t-l-via-then-t-l+else-v-l, else-t-l-via-else-t-l}
 
 pub returns-then-s-l : goal.returns-then-s-l
 returns-then-s-l c =
@@ -32,17 +23,16 @@ returns-then-v-l c =
     (thread_there a c.if-t-l.true) (variable_there a c.if-v-l.true)
     a.laid.model (stores_held c.buffer-then-v-l.ensures)
 
-pub returns-else-v-l : goal.returns-else-v-l
-unfolding flush_variable
-returns-else-v-l c =
-    let a = c.requires.accepted in
-    sym (no_flush _ _ _ c.if-s-ge-MOST_THREADS.true (inr (variable_absent a c.if-v-l.false)))
-
 pub returns-else-t-l : goal.returns-else-t-l
-unfolding flush_thread
+unfolding flush_thread flush_variable
 returns-else-t-l c =
     let a = c.requires.accepted in
-    sym (no_flush _ _ _ c.if-s-ge-MOST_THREADS.true (inl (thread_absent a c.if-t-l.false)))
+    let low = c.if-s-ge-MOST_THREADS.true in
+    sym
+    (elim c.else-t-l.branch [
+      | else-t-l-via-then-t-l+else-v-l w ↦ no_flush _ _ _ low (inr (variable_absent a w.if-v-l.false))
+      | else-t-l-via-else-t-l w ↦ no_flush _ _ _ low (inl (thread_absent a w.if-t-l.false))
+    ])
 
 pub returns-else-s-ge-MOST_THREADS : goal.returns-else-s-ge-MOST_THREADS
 returns-else-s-ge-MOST_THREADS c = sym (no_execute _ _ _ c.if-s-ge-MOST_THREADS.false (thread_absent c.requires.accepted c.if-s-l.false))

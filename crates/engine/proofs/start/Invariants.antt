@@ -1,12 +1,7 @@
 -- `engine::start` meets its contract. The invariant: the variables that were passed have their initial values, and all else is 0 and empty.
-use Prim.Native.Nat.{◌-◌, ◌≤◌}
-use Rattle.rules.specs.Limits.{most_variables}
 use Rattle.rules.specs.File.{job_of}
 use Rattle.engine.proofs.StartLaws.{Started}
 use Rattle.engine.proofs.start.Given as goal
 
 abbrev pub invariant-loop-cell : goal.invariant-loop-cell
-invariant-loop-cell l = Started (job_of l.job) l.x l.cell × (l.cell ≤ most_variables)
-
-abbrev pub decreases-loop-cell : goal.decreases-loop-cell
-decreases-loop-cell l = most_variables - l.cell
+invariant-loop-cell l = Started (job_of l.job) l.x l.cell
