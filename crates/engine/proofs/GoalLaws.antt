@@ -21,9 +21,8 @@ use Rattle.rules.specs.declared.Instr.{Instr}
 use Rattle.buffer.specs.Held.{held_pending, held_buffer, BufferOk}
 use Rattle.buffer.specs.Posts.{Holds as HoldsBuffer}
 use Rattle.buffer.specs.declared.Buf.{Buf}
-use Rattle.tables.specs.Told.{goal_clause_of}
-use Rattle.tables.specs.declared.ClauseRead.{ClauseRead}
-use Rattle.tables.specs.declared.ClauseRead.TheVariants.{Good, Bad}
+use Rattle.std.specs.Prelude.{Option, Some, None}
+use Rattle.tables.specs.Told.{told}
 use Rattle.state.specs.Held.{held, StateOk}
 use Rattle.state.specs.declared.State.{State}
 use Rattle.engine.specs.At.{ClauseOk}
@@ -54,20 +53,20 @@ clause_parts w vars threads few small (RegisterIs t r k) h = (omega (arith, h.0)
 clause_parts w vars threads few small (MemoryIs v k) h = omega (arith, h.0)
 
 -- The clause at place i was read.
-module _ (j : Job) (i : ℕ) (r : ClauseRead) (read : goal_clause_of r ≡ get_elem? j.clauses i) where
-  pub clause_read : (c : Clause) → r ≡ Good c → get_elem? j.clauses i ≡ some c
-  clause_read c e = sym read ∙ ap goal_clause_of e
+module _ (j : Job) (i : ℕ) (r : Option Clause) (read : told r ≡ get_elem? j.clauses i) where
+  pub clause_read : (c : Clause) → r ≡ Some c → get_elem? j.clauses i ≡ some c
+  clause_read c e = sym read ∙ ap told e
 
-  pub clause_ok : JobIn j → (c : Clause) → r ≡ Good c → ClauseOk c
+  pub clause_ok : JobIn j → (c : Clause) → r ≡ Some c → ClauseOk c
   clause_ok range c e =
       clause_parts (width j) (length j.initial) j.threads range.variables_most range.threads_most c
       (all_at (ClauseIn (width j) (length j.initial) j.threads) j.clauses range.clauses c (at_in j.clauses i c (clause_read c e)))
 
   -- none is bad below the number of the clauses
-  pub clause_there : r ≡ Bad → i < length j.clauses → ⊥
+  pub clause_there : r ≡ None → i < length j.clauses → ⊥
   clause_there e h =
       let c = below_at j.clauses i h in
-      none-ne-some c.0 (ap goal_clause_of (sym e) ∙ read ∙ c.1)
+      none-ne-some c.0 (ap told (sym e) ∙ read ∙ c.1)
 
 module _ (j : Job) (x : states.State) where
   -- the flag asks for empty buffers

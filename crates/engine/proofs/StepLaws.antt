@@ -1,5 +1,5 @@
 -- Which step a number stands for, and what the instruction that a thread stands at says of its step.
-use Rattle.std.specs.Prelude.{Ok, Err}
+use Rattle.std.specs.Prelude.{Ok, Err, Option, Some}
 use mathlib.Core.Path.{◌≡◌, refl, sym, ap, ◌∙◌}
 use mathlib.Core.Logic.{◌⊎◌, inl, inr}
 use mathlib.Core.List.{List}
@@ -20,9 +20,7 @@ use Rattle.rules.specs.Keeps.{capacity_most, stands}
 use Rattle.rules.specs.declared.Model.{Model}
 use Rattle.rules.specs.declared.Instr.{Instr}
 use Rattle.job.specs.Laid.{IsAccepted}
-use Rattle.job.specs.Passed.{place_of}
-use Rattle.job.specs.declared.PlaceRead.{PlaceRead}
-use Rattle.job.specs.declared.PlaceRead.TheVariants.{Holds}
+use Rattle.tables.specs.Told.{told}
 use Rattle.job.specs.declared.Layout.{Layout}
 use Rattle.machine.specs.Operands.{InstrOk, free_more}
 use Rattle.engine.specs.At.{may_execute_at}
@@ -100,15 +98,15 @@ module _ {bytes : List ℕ} {l : Layout} (a : IsAccepted bytes l) where
   variable_absent h = omega (arith, h, a.laid.vars)
 
 -- Of an accepted job, the place p of thread t was read.
-module _ {bytes : List ℕ} {l : Layout} (a : IsAccepted bytes l) (t p : ℕ) {r : PlaceRead} (read : place_of r ≡ instruction_at (job_of bytes) t p) where
-  stands_at : {q : PlaceRead} → r ≡ q → instruction_at (job_of bytes) t p ≡ place_of q
-  stands_at e = sym read ∙ ap place_of e
+module _ {bytes : List ℕ} {l : Layout} (a : IsAccepted bytes l) (t p : ℕ) {r : Option Instr} (read : told r ≡ instruction_at (job_of bytes) t p) where
+  stands_at : {q : Option Instr} → r ≡ q → instruction_at (job_of bytes) t p ≡ told q
+  stands_at e = sym read ∙ ap told e
 
   pub may_by_read :
-      {q : PlaceRead} → r ≡ q → (b : List Pending) → may_execute l.model l.capacity (place_of q) b ≡ may_execute_at (job_of bytes) t p b
+      {q : Option Instr} → r ≡ q → (b : List Pending) → may_execute l.model l.capacity (told q) b ≡ may_execute_at (job_of bytes) t p b
   may_by_read e b = rw (stands_at e, a.laid.model, a.laid.capacity)
 
-  pub operands_by_read : {i : Instr} → r ≡ Holds i → InstrOk i
+  pub operands_by_read : {i : Instr} → r ≡ Some i → InstrOk i
   operands_by_read {i} e =
       record {
         width = _;
@@ -120,11 +118,11 @@ module _ {bytes : List ℕ} {l : Layout} (a : IsAccepted bytes l) (t p : ℕ) {r
 
   -- a state x that is at it
   module _ (x : State) (thread : t < most_threads) (at : p ≡ place t x) where
-    pub after_by_read : {q : PlaceRead} → r ≡ q → after_execute l.model t (place_of q) x ≡ after (job_of bytes) t x
+    pub after_by_read : {q : Option Instr} → r ≡ q → after_execute l.model t (told q) x ≡ after (job_of bytes) t x
     after_by_read e = rw (after_of_execute (job_of bytes) x t thread, ← at, stands_at e, a.laid.model)
 
     pub free_by_read :
-        {i : Instr} → r ≡ Holds i → may (job_of bytes) t x ≡ Ok tt → free l.model most_pending (wait_of i) (pending t x) ≡ Ok tt
+        {i : Instr} → r ≡ Some i → may (job_of bytes) t x ≡ Ok tt → free l.model most_pending (wait_of i) (pending t x) ≡ Ok tt
     unfolding may_execute
     free_by_read {i} e may =
         let j = job_of bytes in

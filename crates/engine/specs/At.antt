@@ -1,4 +1,4 @@
--- What the machine of a job asks: the job was accepted, and the state is one of its machine's.
+-- What the machine of a job asks of a state: that it is one of the job's machine.
 use Rattle.std.specs.Prelude.{◌≡◌, List, ℕ, ◌<◌, length, replicate}
 use Rattle.rules.specs.Limits.{most_threads, most_variables, registers_each, all_registers}
 use Rattle.rules.specs.State.{Pending}
@@ -10,13 +10,10 @@ use Rattle.rules.specs.Sound.{WellFormed}
 use Rattle.rules.specs.declared.Model.{Model}
 use Rattle.rules.specs.declared.Clause.{Clause}
 use Rattle.rules.specs.declared.Clause.TheVariants.{PlaceIs, RegisterIs, MemoryIs}
-use Rattle.job.specs.Laid.{IsAccepted}
-use Rattle.job.specs.declared.Layout.{Layout}
 use Rattle.state.specs.Held.{held, StateOk}
 use Rattle.state.specs.declared.State.{State}
 
-pub record At (bytes : List ℕ) (l : Layout) (s : State) : Type 0 where
-  pub accepted : IsAccepted bytes l
+pub record At (bytes : List ℕ) (s : State) : Type 0 where
   pub ok : StateOk s
   pub well : WellFormed (job_of bytes) (held s)
 

@@ -8,19 +8,17 @@ ghost use Rattle.rules.specs.Job as jobs;
 ghost use Rattle.rules.specs.Step as steps;
 ghost use Rattle.rules.specs.Goal as goals;
 ghost use Rattle.rules.specs.File.{job_of};
-ghost use Rattle.job.specs.Laid.{IsAccepted};
 ghost use Rattle.buffer.specs.Held.{BufferOk, held_pending};
 ghost use Rattle.state.specs.Held.{StateOk, held};
 ghost use Rattle.state.specs.Parts.{Holds};
 ghost use Rattle.engine.specs.At.{At, ClauseOk, blank, FlushesOf, may_execute_at};
 
 use buffer::Buf;
-use job::{Layout, PlaceRead};
+use job::Job;
 use rules::{
     Clause, MEMORY_SIZE, MOST_THREADS, MOST_VARIABLES, Model, REGISTERS_SIZE, Reason, THREADS,
 };
 use state::State;
-use tables::ClauseRead;
 
 // The state in which all is 0 and empty.
 fn blank() -> State
@@ -35,85 +33,83 @@ fn blank() -> State
 }
 
 // The state in which the job starts: each variable has its initial value, 0 if the job doesn't have it.
-pub fn start(job: &[u8], l: Layout) -> State
-    requires { IsAccepted job.now l }
-    ensures { Holds result (jobs.start (job_of job.now)) }
+pub fn start(job: &Job) -> State
+    ensures { Holds result (jobs.start (job_of job.now.bytes.now)) }
 {
     let mut x = blank();
     for cell in 0..MOST_VARIABLES {
-        x = state::with_variable(x, cell, job::parts::initial(job, l, cell));
+        x = state::with_variable(x, cell, job.initial(cell));
     }
     x
 }
 
 // Whether a thread t of the job that is at this place, with these stores pending, may execute, and why not.
-fn may_execute(job: &[u8], l: Layout, t: u8, place: u8, own: Buf) -> Result<(), Reason>
-    requires accepted { IsAccepted job.now l }
-    requires buffer_ok { BufferOk own }
-    ensures { result ≡ may_execute_at (job_of job.now) t place (held_pending own) }
+fn may_execute(job: &Job, t: u8, place: u8, own: Buf) -> Result<(), Reason>
+    requires { BufferOk own }
+    ensures { result ≡ may_execute_at (job_of job.now.bytes.now) t place (held_pending own) }
 {
-    match job::parts::instruction_at(job, l, t, place) {
-        PlaceRead::Holds(i) => machine::may_execute(i, l.model, l.capacity, own),
-        PlaceRead::Ended => Err(Reason::ThreadEnded),
+    match job.instruction_at(t, place) {
+        Some(i) => machine::may_execute(i, job.layout.model, job.layout.capacity, own),
+        None => Err(Reason::ThreadEnded),
     }
 }
 
 // Whether step s may be taken, and why not. Threads from T up, variables from V up and numbers from 36 up have no step.
-pub fn may(job: &[u8], l: Layout, x: State, s: u8) -> Result<(), Reason>
-    requires { At job.now l x }
-    ensures { result ≡ steps.may (job_of job.now) s (held x) }
+pub fn may(job: &Job, x: State, s: u8) -> Result<(), Reason>
+    requires { At job.now.bytes.now x }
+    ensures { result ≡ steps.may (job_of job.now.bytes.now) s (held x) }
 {
-    if s < l.threads {
-        return may_execute(job, l, s, state::place(x, s), state::buffer(x, s));
+    if s < job.layout.threads {
+        return may_execute(job, s, state::place(x, s), state::buffer(x, s));
     }
     if MOST_THREADS <= s {
         // From 36 up this is no thread of any job.
         let flush = s - MOST_THREADS;
         let t = flush / MOST_VARIABLES;
         let v = flush % MOST_VARIABLES;
-        if t < l.threads && v < l.vars {
-            return buffer::flush::may_flush(l.model, state::buffer(x, t), v);
+        if t < job.layout.threads && v < job.layout.vars {
+            return buffer::flush::may_flush(job.layout.model, state::buffer(x, t), v);
         }
     }
     Err(Reason::NoSuchStep)
 }
 
 // One instruction of thread t, which may execute.
-fn execute(job: &[u8], l: Layout, x: State, t: u8) -> State
-    requires at { At job.now l x }
+fn execute(job: &Job, x: State, t: u8) -> State
+    requires at { At job.now.bytes.now x }
     requires is_thread { t < most_threads }
-    requires may_be_taken { steps.may (job_of job.now) t (held x) ≡ Ok tt }
-    ensures { Holds result (steps.after (job_of job.now) t (held x)) }
+    requires may_be_taken { steps.may (job_of job.now.bytes.now) t (held x) ≡ Ok tt }
+    ensures { Holds result (steps.after (job_of job.now.bytes.now) t (held x)) }
 {
-    match job::parts::instruction_at(job, l, t, state::place(x, t)) {
-        PlaceRead::Holds(i) => machine::execute(i, l.model, x, t),
-        PlaceRead::Ended => x,
+    match job.instruction_at(t, state::place(x, t)) {
+        Some(i) => machine::execute(i, job.layout.model, x, t),
+        None => x,
     }
 }
 
 // The state after step s, which may be taken.
-pub fn take(job: &[u8], l: Layout, x: State, s: u8) -> State
-    requires at { At job.now l x }
-    requires may_be_taken { steps.may (job_of job.now) s (held x) ≡ Ok tt }
-    ensures { Holds result (steps.after (job_of job.now) s (held x)) }
+pub fn take(job: &Job, x: State, s: u8) -> State
+    requires at { At job.now.bytes.now x }
+    requires may_be_taken { steps.may (job_of job.now.bytes.now) s (held x) ≡ Ok tt }
+    ensures { Holds result (steps.after (job_of job.now.bytes.now) s (held x)) }
 {
     if s < MOST_THREADS {
-        return execute(job, l, x, s);
+        return execute(job, x, s);
     }
     let flush = s - MOST_THREADS;
     machine::flush(x, flush / MOST_VARIABLES, flush % MOST_VARIABLES)
 }
 
 // The execute steps that may be taken: bits 0 to 3.
-fn executes(job: &[u8], l: Layout, x: State) -> u64
-    requires { At job.now l x }
-    ensures { result ≡ steps.enabled_below (job_of job.now) (held x) most_threads }
+fn executes(job: &Job, x: State) -> u64
+    requires { At job.now.bytes.now x }
+    ensures { result ≡ steps.enabled_below (job_of job.now.bytes.now) (held x) most_threads }
 {
     let mut mask = 0;
-    for t in 0..l.threads {
+    for t in 0..job.layout.threads {
         let place = x.places[t as usize];
         let own = x.bufs[t as usize];
-        let on = may_execute(job, l, t, place, own).is_ok();
+        let on = may_execute(job, t, place, own).is_ok();
         mask = bits::with_bit(mask, t, on);
     }
     mask
@@ -140,13 +136,16 @@ fn flushes(model: Model, vars: u8, pending: Buf, t: u8, before: u64) -> u64
 }
 
 // The steps that may be taken, as one number: bit s is set exactly when step s may be taken, and 0 exactly when it has a reason.
-pub fn enabled(job: &[u8], l: Layout, x: State) -> u64
-    requires { At job.now l x }
-    ensures { result ≡ steps.enabled (job_of job.now) (held x) }
+pub fn enabled(job: &Job, x: State) -> u64
+    requires { At job.now.bytes.now x }
+    ensures { result ≡ steps.enabled (job_of job.now.bytes.now) (held x) }
 {
-    let mut mask = executes(job, l, x);
-    for t in 0..l.threads {
-        mask = flushes(l.model, l.vars, x.bufs[t as usize], t, mask);
+    let model = job.layout.model;
+    let vars = job.layout.vars;
+    let mut mask = executes(job, x);
+    for t in 0..job.layout.threads {
+        let own = x.bufs[t as usize];
+        mask = flushes(model, vars, own, t, mask);
     }
     mask
 }
@@ -172,13 +171,13 @@ fn clause_holds(x: State, c: Clause) -> bool
 }
 
 // Whether all clauses of the goal hold.
-fn clauses_hold(job: &[u8], l: Layout, x: State) -> bool
-    requires { At job.now l x }
-    ensures { result ≡ goals.every (goals.clause_holds (held x)) (job_of job.now).clauses }
+fn clauses_hold(job: &Job, x: State) -> bool
+    requires { At job.now.bytes.now x }
+    ensures { result ≡ goals.every (goals.clause_holds (held x)) (job_of job.now.bytes.now).clauses }
 {
-    for i in 0..job::parts::clause_count(job, l) {
+    for i in 0..job.clause_count() {
         // There is one for each i below the count; if there weren't, a goal is the side to err on.
-        let ClauseRead::Good(c) = job::parts::clause_at(job, l, i) else {
+        let Some(c) = job.clause_at(i) else {
             return true;
         };
         if !clause_holds(x, c) {
@@ -189,12 +188,12 @@ fn clauses_hold(job: &[u8], l: Layout, x: State) -> bool
 }
 
 // Whether the state is a goal: the flag and all clauses hold.
-pub fn goal(job: &[u8], l: Layout, x: State) -> bool
-    requires { At job.now l x }
-    ensures { result ≡ goals.goal (job_of job.now) (held x) }
+pub fn goal(job: &Job, x: State) -> bool
+    requires { At job.now.bytes.now x }
+    ensures { result ≡ goals.goal (job_of job.now.bytes.now) (held x) }
 {
-    if job::parts::flag(job, l) && !all_empty(x) {
+    if job.flag() && !all_empty(x) {
         return false;
     }
-    clauses_hold(job, l, x)
+    clauses_hold(job, x)
 }

@@ -1,5 +1,5 @@
 -- From the decoder's answer to the job: for whoever calls it.
-use Rattle.std.specs.Prelude.{◌≡◌, refl, List, [], ◌∷◌, ℕ, ◌<◌, get_or, Result, Ok, Err}
+use Rattle.std.specs.Prelude.{◌≡◌, refl, List, ℕ, ◌<◌, get_or, Result, Ok, Err}
 use Rattle.std.proofs.Common.{sym, ap, ◌∙◌, arith, ext_get_or}
 use Rattle.std.proofs.Math.Decide.{dec_lt}
 use Rattle.rules.specs.File.{accepted, refused, decode, held_job, job_of}
@@ -12,9 +12,7 @@ use Rattle.readers.specs.Passed.{At}
 use Rattle.job.specs.Passed.{Accepted, Refused}
 use Rattle.readers.specs.Passed.{count_in}
 use Rattle.readers.specs.declared.faults.Fault.{Fault}
-use Rattle.readers.specs.declared.faults.Refusal.{Refusal}
-use Rattle.readers.specs.declared.faults.Refusal.TheVariants.{LengthWrong, VersionWrong, HeadOutOfRange, ThreadBad, GoalBad, NotWhole, NoSlots}
-use Rattle.readers.specs.Refusals.{number_of}
+use Rattle.readers.specs.Refusals.{number_of, number_once}
 use Rattle.job.specs.Passed.{came_out, answer_of}
 use Rattle.job.specs.Laid.{StartsLaid, AcceptedUnder, IsAccepted}
 
@@ -67,22 +65,6 @@ layout_once bytes l m a b =
       vars = (h.vars ∙ sym k.vars) i;
       starts = starts_once bytes l.starts m.starts h.starts k.starts i;
     }
-
--- a refusal is known by its number
-abbrev refusal_by : ℕ → Refusal
-refusal_by n = get_or (NoSlots ∷ LengthWrong ∷ VersionWrong ∷ HeadOutOfRange ∷ ThreadBad ∷ GoalBad ∷ NotWhole ∷ []) n NoSlots
-
-by_number : (r : Refusal) → refusal_by (number_of r) ≡ r
-by_number LengthWrong = refl
-by_number VersionWrong = refl
-by_number HeadOutOfRange = refl
-by_number ThreadBad = refl
-by_number GoalBad = refl
-by_number NotWhole = refl
-by_number NoSlots = refl
-
-pub number_once : (r s : Refusal) → number_of r ≡ number_of s → r ≡ s
-number_once r s e = sym (by_number r) ∙ ap refusal_by e ∙ by_number s
 
 came_out_once : (r s : Result Model Fault) → came_out r ≡ came_out s → r ≡ s
 came_out_once (Ok m) (Ok n) e = let h : m ≡ n = cc in ap {B = Result Model Fault} Ok h

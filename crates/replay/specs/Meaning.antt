@@ -1,5 +1,5 @@
 -- What a replay answers, for every input: 01, "Replay and fence check", and request 5.
-use Rattle.std.specs.Prelude.{◌≡◌, refl, List, [], ◌∷◌, ℕ, get_or}
+use Rattle.std.specs.Prelude.{◌≡◌, refl, List, [], ◌∷◌, ℕ, get_or, Result, Ok, Err}
 use Rattle.std.proofs.Common.{sym, ◌∙◌, ap, subst}
 use Rattle.reach.specs.Replay as reach
 use Rattle.reach.specs.ReplayLaws.{schedule_reaches}
@@ -14,7 +14,10 @@ use Rattle.rules.specs.Reasons.{number_of, by_number, numbered}
 use Rattle.rules.specs.declared.Reason.{Reason}
 use Rattle.rules.specs.declared.Reason.TheVariants.{NoSuchStep, ThreadEnded, BufferFull, BufferNotEmpty, NothingToFlush, NotTheOldest}
 use Rattle.replay.specs.declared.Answer.{Answer}
-use Rattle.replay.specs.declared.Answer.TheVariants.{Refused, Reaches, FallsShort, Stuck}
+use Rattle.replay.specs.declared.Answer.TheVariants.{Reaches, FallsShort, Stuck}
+use Rattle.readers.specs.Refusals as refusals
+use Rattle.readers.specs.declared.faults.Fault.{Fault}
+use Rattle.readers.specs.declared.faults.Refusal.TheVariants.{ThreadBad}
 
 -- each case of the answer with its number and values
 abbrev pub replayed_words : reach.Replayed Reason → List ℕ
@@ -22,23 +25,26 @@ replayed_words reach.reaches = 1 ∷ 0 ∷ 0 ∷ 0 ∷ []
 replayed_words reach.falls_short = 2 ∷ 0 ∷ 0 ∷ 0 ∷ []
 replayed_words (reach.stuck i why) = 3 ∷ i ∷ number_of why ∷ 0 ∷ []
 
-abbrev pub words : Answer → List ℕ
-words (Refused number offset) = refusal_words number offset
-words Reaches = replayed_words reach.reaches
-words FallsShort = replayed_words reach.falls_short
-words (Stuck i why) = replayed_words (reach.stuck i why)
+abbrev pub answer_words : Answer → List ℕ
+answer_words Reaches = replayed_words reach.reaches
+answer_words FallsShort = replayed_words reach.falls_short
+answer_words (Stuck i why) = replayed_words (reach.stuck i why)
+
+abbrev pub words : Result Answer Fault → List ℕ
+words (Err f) = refusal_words (refusals.number_of f.refusal) f.offset
+words (Ok a) = answer_words a
 
 -- worked values of them
 pub words_are :
-    (words (Refused 4 10) ≡ 0 ∷ 4 ∷ 10 ∷ 0 ∷ [])
-    × (words Reaches ≡ 1 ∷ 0 ∷ 0 ∷ 0 ∷ [])
-    × (words FallsShort ≡ 2 ∷ 0 ∷ 0 ∷ 0 ∷ [])
-    × (words (Stuck 7 NoSuchStep) ≡ 3 ∷ 7 ∷ 1 ∷ 0 ∷ [])
-    × (words (Stuck 7 ThreadEnded) ≡ 3 ∷ 7 ∷ 2 ∷ 0 ∷ [])
-    × (words (Stuck 7 BufferFull) ≡ 3 ∷ 7 ∷ 3 ∷ 0 ∷ [])
-    × (words (Stuck 7 BufferNotEmpty) ≡ 3 ∷ 7 ∷ 4 ∷ 0 ∷ [])
-    × (words (Stuck 7 NothingToFlush) ≡ 3 ∷ 7 ∷ 5 ∷ 0 ∷ [])
-    × (words (Stuck 7 NotTheOldest) ≡ 3 ∷ 7 ∷ 6 ∷ 0 ∷ [])
+    (words (Err (record { refusal = ThreadBad; offset = 10 })) ≡ 0 ∷ 4 ∷ 10 ∷ 0 ∷ [])
+    × (words (Ok Reaches) ≡ 1 ∷ 0 ∷ 0 ∷ 0 ∷ [])
+    × (words (Ok FallsShort) ≡ 2 ∷ 0 ∷ 0 ∷ 0 ∷ [])
+    × (words (Ok (Stuck 7 NoSuchStep)) ≡ 3 ∷ 7 ∷ 1 ∷ 0 ∷ [])
+    × (words (Ok (Stuck 7 ThreadEnded)) ≡ 3 ∷ 7 ∷ 2 ∷ 0 ∷ [])
+    × (words (Ok (Stuck 7 BufferFull)) ≡ 3 ∷ 7 ∷ 3 ∷ 0 ∷ [])
+    × (words (Ok (Stuck 7 BufferNotEmpty)) ≡ 3 ∷ 7 ∷ 4 ∷ 0 ∷ [])
+    × (words (Ok (Stuck 7 NothingToFlush)) ≡ 3 ∷ 7 ∷ 5 ∷ 0 ∷ [])
+    × (words (Ok (Stuck 7 NotTheOldest)) ≡ 3 ∷ 7 ∷ 6 ∷ 0 ∷ [])
 words_are = (refl, refl, refl, refl, refl, refl, refl, refl, refl)
 
 -- "stuck at i" and why, else "reaches" or "falls short" by the state at the end
@@ -75,17 +81,18 @@ found_reaches bytes j e N d n o h ws r =
     (record { replayed = reach.reaches; means = schedule_reaches (explained j) N d n o h; answer = refl }))
 
 -- The words tell the answers apart: from the words back to the case.
-case_of : List ℕ → Answer
+case_of : List ℕ → Result Answer Fault
 case_of ws =
     let x = get_or ws 1 0 in
-    get_or (Refused x (get_or ws 2 0) ∷ Reaches ∷ FallsShort ∷ []) (get_or ws 0 0) (Stuck x (by_number (get_or ws 2 0)))
+    let y = get_or ws 2 0 in
+    get_or (Err (record { refusal = refusals.refusal_by x; offset = y }) ∷ Ok Reaches ∷ Ok FallsShort ∷ []) (get_or ws 0 0) (Ok (Stuck x (by_number y)))
 
-case_back : (a : Answer) → case_of (words a) ≡ a
+case_back : (a : Result Answer Fault) → case_of (words a) ≡ a
 unfolding case_of
-case_back (Refused number offset) = refl
-case_back Reaches = refl
-case_back FallsShort = refl
-case_back (Stuck i why) = ap (Stuck i) (numbered why)
+case_back (Err f) = ap (λ r. Err (record { refusal = r; offset = f.offset })) (refusals.refusal_numbered f.refusal)
+case_back (Ok Reaches) = refl
+case_back (Ok FallsShort) = refl
+case_back (Ok (Stuck i why)) = ap (λ r. Ok (Stuck i r)) (numbered why)
 
-pub same_answer : (a b : Answer) → words a ≡ words b → a ≡ b
+pub same_answer : (a b : Result Answer Fault) → words a ≡ words b → a ≡ b
 same_answer a b e = sym (case_back a) ∙ ap case_of e ∙ case_back b

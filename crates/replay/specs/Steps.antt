@@ -14,8 +14,7 @@ use Rattle.rules.specs.Goal.{goal}
 use Rattle.rules.specs.File.{job_of}
 use Rattle.rules.proofs.Keeps.{run_well_formed}
 use Rattle.rules.specs.Machine.{machine}
-use Rattle.job.specs.Laid.{IsAccepted}
-use Rattle.job.specs.declared.Layout.{Layout}
+use Rattle.rules.specs.Sound.{JobIn}
 use Rattle.state.specs.Held.{held, StateOk}
 use Rattle.state.specs.Parts.{Holds}
 use Rattle.state.specs.declared.State.{State}
@@ -70,6 +69,6 @@ module _ (j : Job) (w : List ℕ) where
 
 -- the state is one of the job's machine
 abbrev pub at_step :
-    {bytes : List ℕ} {l : Layout} → IsAccepted bytes l → {w : List ℕ} {s : State} {i : ℕ} → Stepping (job_of bytes) w s i → At bytes l s
-at_step {bytes} a {w} {s} {i} h =
-    record { accepted = a; ok = h.ok; well = run_well_formed (job_of bytes) a.in_range (take i w) (held s) h.leads }
+    {bytes : List ℕ} → JobIn (job_of bytes) → {w : List ℕ} {s : State} {i : ℕ} → Stepping (job_of bytes) w s i → At bytes s
+at_step {bytes} range {w} {s} {i} h =
+    record { ok = h.ok; well = run_well_formed (job_of bytes) range (take i w) (held s) h.leads }

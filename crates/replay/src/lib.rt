@@ -2,34 +2,32 @@
 #![tactic(auto)]
 
 ghost use Rattle.rules.specs.File.{job_of};
-ghost use Rattle.job.specs.Laid.{IsAccepted};
-ghost use Rattle.replay.specs.Meaning.{words, ReplayFor, ReplayPromise};
+ghost use Rattle.replay.specs.Meaning.{answer_words, words, ReplayFor, ReplayPromise};
 
-use job::{Decoded, Layout};
+use job::Job;
+use readers::faults::Fault;
 use rules::Reason;
 
-// What a replay answers: the refusal's number and offset; the goal holds at the end, or not; the first step that may not be taken, and why.
+// What a replay of an accepted job answers: the goal holds at the end, or not; the first step that may not be taken, and why.
 #[derive(Clone, Copy)]
 pub enum Answer {
-    Refused(u8, usize),
     Reaches,
     FallsShort,
     Stuck(usize, Reason),
 }
 
 // The schedule of an accepted job, step by step: a step is taken if it may be.
-fn replay_accepted(job: &[u8], schedule: &[u8], l: Layout) -> Answer
-    requires { IsAccepted job.now l }
-    ensures { ReplayFor (job_of job.now) schedule.now (words result) }
+fn replay_accepted(job: &Job, schedule: &[u8]) -> Answer
+    ensures { ReplayFor (job_of job.now.bytes.now) schedule.now (answer_words result) }
 {
-    let mut x = engine::start(job, l);
+    let mut x = engine::start(job);
     for (i, &s) in schedule.iter().enumerate() {
-        if let Err(why) = engine::may(job, l, x, s) {
+        if let Err(why) = engine::may(job, x, s) {
             return Answer::Stuck(i, why);
         }
-        x = engine::take(job, l, x, s);
+        x = engine::take(job, x, s);
     }
-    if engine::goal(job, l, x) {
+    if engine::goal(job, x) {
         Answer::Reaches
     } else {
         Answer::FallsShort
@@ -37,11 +35,9 @@ fn replay_accepted(job: &[u8], schedule: &[u8], l: Layout) -> Answer
 }
 
 // The replay: any bytes as a job, any bytes as a schedule, always an answer.
-pub fn replay(job: &[u8], schedule: &[u8]) -> Answer
+pub fn replay(job: &[u8], schedule: &[u8]) -> Result<Answer, Fault>
     ensures { ReplayPromise job.now schedule.now (words result) }
 {
-    match job::decode(job) {
-        Decoded::Accepted(model) => replay_accepted(job, schedule, job::layout_of(job, model)),
-        Decoded::Refused(number, offset) => Answer::Refused(number, offset),
-    }
+    let accepted = job::read(job)?;
+    Ok(replay_accepted(&accepted, schedule))
 }

@@ -9,13 +9,13 @@ use Rattle.engine.proofs.clauses_hold.Goals as goal
 pub clause_holds-requires-clause-clause_ok : goal.clause_holds-requires-clause-clause_ok
 clause_holds-requires-clause-clause_ok c =
     let read = c.clause_at in
-    clause_ok (job_of _) _ read.result read.ensures c.requires.accepted.in_range _ c.in-Good.is
+    clause_ok (job_of _) _ read.result read.ensures c.args.job.now.in_range _ c.in-Some.is
 
 pub returns-then-not-clause_holds : goal.returns-then-not-clause_holds
 returns-then-not-clause_holds c =
     let l = c.loop-i in
     let read = c.clause_at in
-    let there = clause_read (job_of _) _ read.result read.ensures _ c.in-Good.is in
+    let there = clause_read (job_of _) _ read.result read.ensures _ c.in-Some.is in
     sym (l.invariant ∙ test_first (clause_holds _) (job_of _).clauses l.i _ there (sym c.clause_holds.ensures ∙ c.if-not-clause_holds.true))
 
 pub returns-in_default : goal.returns-in_default
@@ -28,7 +28,7 @@ pub loop-i-preserved : goal.loop-i-preserved
 loop-i-preserved c =
     let l = c.loop-i in
     let read = c.clause_at in
-    let there = clause_read (job_of _) _ read.result read.ensures _ c.in-Good.is in
+    let there = clause_read (job_of _) _ read.result read.ensures _ c.in-Some.is in
     l.invariant ∙ test_first (clause_holds _) (job_of _).clauses l.i _ there (sym c.clause_holds.ensures ∙ c.if-not-clause_holds.false)
 
 pub returns : goal.returns

@@ -7,4 +7,4 @@ use Rattle.state.specs.Held.{held}
 use Rattle.engine.proofs.clauses_hold.Given as goal
 
 abbrev pub invariant-loop-i : goal.invariant-loop-i
-invariant-loop-i l = every (clause_holds (held l.x)) (job_of l.job).clauses ≡ every (clause_holds (held l.x)) (drop l.i (job_of l.job).clauses)
+invariant-loop-i l = every (clause_holds (held l.x)) (job_of l.job.bytes.now).clauses ≡ every (clause_holds (held l.x)) (drop l.i (job_of l.job.bytes.now).clauses)

@@ -8,4 +8,4 @@ use Rattle.state.specs.Held.{held}
 use Rattle.engine.proofs.enabled.Given as goal
 
 abbrev pub invariant-loop-t : goal.invariant-loop-t
-invariant-loop-t l = l.mask ≡ enabled_below (job_of l.job) (held l.x) (most_threads + most_variables * l.t)
+invariant-loop-t l = l.mask ≡ enabled_below (job_of l.job.bytes.now) (held l.x) (most_threads + most_variables * l.t)

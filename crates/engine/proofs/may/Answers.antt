@@ -4,35 +4,36 @@ use mathlib.Core.Logic.{inl, inr}
 use Rattle.buffer.specs.Posts.{stores_held}
 use Rattle.rules.specs.Step.{flush_thread, flush_variable}
 use Rattle.engine.proofs.StepLaws.{may_of_execute, may_of_flush, no_execute, no_flush, few_threads, thread_there, thread_low, thread_absent, variable_there, variable_absent}
+use Rattle.job.specs.JobOf.{accepted_job}
 use Rattle.engine.proofs.may.Goals as goal
-use Rattle.engine.proofs.may.Goals.{else-t-l-via-then-t-l+else-v-l, else-t-l-via-else-t-l}
+use Rattle.engine.proofs.may.Goals.{else-t-job-via-then-t-job+else-v-job, else-t-job-via-else-t-job}
 
-pub returns-then-s-l : goal.returns-then-s-l
-returns-then-s-l c =
-    let a = c.requires.accepted in
-    let below = c.if-s-l.true in
+pub returns-then-s-job : goal.returns-then-s-job
+returns-then-s-job c =
+    let a = accepted_job c.args.job.now in
+    let below = c.if-s-job.true in
     c.may_execute.ensures
     ∙ may_of_execute _ _ _ (thread_low a below) (thread_there a below) c.place.ensures (stores_held c.buffer.ensures)
 
-pub returns-then-v-l : goal.returns-then-v-l
+pub returns-then-v-job : goal.returns-then-v-job
 unfolding flush_thread flush_variable
-returns-then-v-l c =
-    let a = c.requires.accepted in
+returns-then-v-job c =
+    let a = accepted_job c.args.job.now in
     c.may_flush.ensures
     ∙ may_of_flush _ _ _ c.if-s-ge-MOST_THREADS.true (few_threads a)
-    (thread_there a c.if-t-l.true) (variable_there a c.if-v-l.true)
-    a.laid.model (stores_held c.buffer-then-v-l.ensures)
+    (thread_there a c.if-t-job.true) (variable_there a c.if-v-job.true)
+    a.laid.model (stores_held c.buffer-then-v-job.ensures)
 
-pub returns-else-t-l : goal.returns-else-t-l
+pub returns-else-t-job : goal.returns-else-t-job
 unfolding flush_thread flush_variable
-returns-else-t-l c =
-    let a = c.requires.accepted in
+returns-else-t-job c =
+    let a = accepted_job c.args.job.now in
     let low = c.if-s-ge-MOST_THREADS.true in
     sym
-    (elim c.else-t-l.branch [
-      | else-t-l-via-then-t-l+else-v-l w ↦ no_flush _ _ _ low (inr (variable_absent a w.if-v-l.false))
-      | else-t-l-via-else-t-l w ↦ no_flush _ _ _ low (inl (thread_absent a w.if-t-l.false))
+    (elim c.else-t-job.branch [
+      | else-t-job-via-then-t-job+else-v-job w ↦ no_flush _ _ _ low (inr (variable_absent a w.if-v-job.false))
+      | else-t-job-via-else-t-job w ↦ no_flush _ _ _ low (inl (thread_absent a w.if-t-job.false))
     ])
 
 pub returns-else-s-ge-MOST_THREADS : goal.returns-else-s-ge-MOST_THREADS
-returns-else-s-ge-MOST_THREADS c = sym (no_execute _ _ _ c.if-s-ge-MOST_THREADS.false (thread_absent c.requires.accepted c.if-s-l.false))
+returns-else-s-ge-MOST_THREADS c = sym (no_execute _ _ _ c.if-s-ge-MOST_THREADS.false (thread_absent (accepted_job c.args.job.now) c.if-s-job.false))

@@ -17,4 +17,4 @@ loop-cell-preserved c =
 pub returns : goal.returns
 returns c =
     let l = c.loop-cell in
-    starts (job_of _) c.requires.in_range.variables_most l.x l.cell c.loop-cell-test.false l.invariant
+    starts (job_of _) c.args.job.now.in_range.variables_most l.x l.cell c.loop-cell-test.false l.invariant

@@ -4,4 +4,4 @@ use Rattle.engine.proofs.StartLaws.{Started}
 use Rattle.engine.proofs.start.Given as goal
 
 abbrev pub invariant-loop-cell : goal.invariant-loop-cell
-invariant-loop-cell l = Started (job_of l.job) l.x l.cell
+invariant-loop-cell l = Started (job_of l.job.bytes.now) l.x l.cell

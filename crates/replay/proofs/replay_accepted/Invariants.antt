@@ -4,4 +4,4 @@ use Rattle.replay.specs.Steps.{Stepping}
 use Rattle.replay.proofs.replay_accepted.Given as goal
 
 abbrev pub invariant-loop-i : goal.invariant-loop-i
-invariant-loop-i l = Stepping (job_of l.job) l.schedule l.x l.i
+invariant-loop-i l = Stepping (job_of l.job.bytes.now) l.schedule l.x l.i
