@@ -152,10 +152,7 @@ fn print_fences(answer: fences::Answer) -> bool {
 }
 
 fn print_decision(release: bool) -> bool {
-    let line = verdict::last_line(release);
-    let text = line.text;
-    let count = line.count;
-    print(&text[0..count])
+    print(verdict::last_line(release))
 }
 
 fn answer(job: &[u8]) {

@@ -1,26 +1,22 @@
 -- What was read of a thread is what stands there; what a test of a role tells.
 use mathlib.Core.Path.{◌≡◌, sym, ◌∙◌, ap, subst}
-use mathlib.Core.Logic.{inl, inr}
-use mathlib.Core.Bool.{Bool}
 use mathlib.Core.List.{List}
 use mathlib.Core.Option.{none, some}
 use Prim.Native.Nat.{ℕ, suc, ◌+◌}
 use native.Mathlib.Numerals.{add-one}
 use lib.ListN.{get_elem?}
-use Rattle.bits.specs.Bits.{Has, Put}
+use Rattle.bits.specs.Bits.{Put}
 use Rattle.rules.specs.Kinds.{control_of}
 use Rattle.rules.specs.Step.{instruction_at}
 use Rattle.rules.specs.File.{job_of}
-use Rattle.rules.specs.Fences.{onward, onward_at, successors, role_at, Passes}
+use Rattle.rules.specs.Fences.{onward, onward_at, successors, role_at}
 use Rattle.rules.specs.Keeps.{instruction_of_thread}
 use Rattle.rules.specs.declared.Instr.{Instr}
-use Rattle.rules.specs.declared.Role.{Role}
 use Rattle.rules.specs.declared.Role.TheVariants.{Other}
-use Rattle.rules.specs.declared.Passing.{Passing}
 use Rattle.job.specs.Passed.{place_of}
 use Rattle.job.specs.declared.PlaceRead.{PlaceRead}
 use Rattle.job.specs.declared.PlaceRead.TheVariants.{Holds, Ended}
-use Rattle.fences.specs.Places.{thread_of, Tells, tells_same, Onwards, Joined}
+use Rattle.fences.specs.Places.{thread_of, Joined}
 
 module _ (bytes : List ℕ) (t p : ℕ) (r : PlaceRead) (read : place_of r ≡ instruction_at (job_of bytes) t p) where
   read_at : place_of r ≡ get_elem? (thread_of bytes t) p
@@ -45,19 +41,3 @@ pub successors_at : (code : List Instr) (p : ℕ) (i : Instr) (m r : ℕ)
     → get_elem? code p ≡ some i → Joined (onward p (control_of i)) m r → Joined (successors code p) m r
 unfolding successors onward_at
 successors_at code p i m r e = subst (λ o. Joined (onward_at p o) m r) (sym e)
-
--- whether a walk goes on from a place other than the first
-module _ (by : Passing) (m s p : ℕ) {own : Role} (other : ¬ (p ≡ s)) where
-  pub onwards_passed : Passes by own → {b : Bool} → Tells b (Has m p) → Tells b (Onwards by m s p own)
-  onwards_passed n = tells_same (λ h. inr (h, n)) back
-    where
-      back : Onwards by m s p own → Has m p
-      back (inl d) = absurd (other d)
-      back (inr h) = h.0
-
-  pub onwards_stopped : ¬ (Passes by own) → ¬ (Onwards by m s p own)
-  onwards_stopped n (inl d) = other d
-  onwards_stopped n (inr h) = n h.1
-
-pub onwards_as : (by : Passing) (m s p : ℕ) {own r : Role} → own ≡ r → {b : Bool} → Tells b (Onwards by m s p own) → Tells b (Onwards by m s p r)
-onwards_as by m s p e {b} = subst (λ z. Tells b (Onwards by m s p z)) e

@@ -1,12 +1,11 @@
 -- The places to which walks lead from one place, as a set that grows: what it has is met, and at rest it has all.
-use Rattle.std.specs.Prelude.{◌≡◌, refl, ◌⊎◌, Bool, true, false, List, [], ◌∷◌, ℕ, ◌+◌, ◌≤◌, ◌<◌, eqb, length, get_or}
-use Rattle.std.proofs.Common.{sym, ◌∙◌, subst, inl, inr, true≢false, eq-or-lt_of_le, arith, eqb-true}
-use Rattle.std.proofs.lemmas.Bool.{false≢true, eqb-false}
+use Rattle.std.specs.Prelude.{◌≡◌, refl, ◌⊎◌, Option, None, Some, List, [], ◌∷◌, ℕ, ◌+◌, ◌≤◌, ◌<◌, length, get_or}
+use Rattle.std.proofs.Common.{sym, subst, inl, inr, eq-or-lt_of_le, arith}
 use Rattle.std.proofs.Math.Option.{none}
 use Rattle.std.proofs.Math.ListN.{get_elem?}
 use Rattle.reach.specs.Lists.{◌∈◌}
 use Rattle.reach.specs.ListLaws.{all_get_or, at_below, at_get_or, below_at}
-use Rattle.bits.specs.Bits.{width, bit_of, Has, Put}
+use Rattle.bits.specs.Bits.{width, Has, Put}
 use Rattle.bits.specs.BitLaws.{bit_of_zero}
 use Rattle.rules.specs.Limits.{longest_thread}
 use Rattle.rules.specs.File.{job_of}
@@ -18,7 +17,6 @@ use Rattle.rules.specs.declared.Role.{Role}
 use Rattle.rules.specs.declared.Role.TheVariants.{Stores, Loads}
 use Rattle.rules.specs.declared.Passing.{Passing}
 use Rattle.rules.specs.declared.Passing.TheVariants.{Anything, NoFence}
-use Rattle.fences.specs.declared.Pair.{Pair}
 
 -- the instructions of a thread, none for a thread that the job doesn't have
 abbrev pub thread_of : List ℕ → ℕ → List Instr
@@ -29,24 +27,6 @@ pub short : (bytes : List ℕ) (t : ℕ) → JobIn (job_of bytes) → length (th
 short bytes t ok =
     let most = all_get_or (λ code. length code ≤ longest_thread) (job_of bytes).threads t [] ok.lengths (omega arith) in
     omega arith
-
--- the answer to a question: yes exactly when it holds
-pub record Tells (b : Bool) (P : Type 0) : Type 0 where
-  pub yes : b ≡ true → P
-  pub no : b ≡ false → ¬ P
-
-pub tells_yes : {P : Type 0} → P → Tells true P
-tells_yes p = record { yes = λ e. p; no = λ e. absurd (true≢false e) }
-
-pub tells_no : {P : Type 0} → ¬ P → Tells false P
-tells_no n = record { yes = λ e. absurd (false≢true e); no = λ e. n }
-
-pub tells_has : (b : Bool) (m p : ℕ) → b ≡ eqb (bit_of m p) 1 → Tells b (Has m p)
-tells_has b m p e = record { yes = λ d. eqb-true _ _ (sym e ∙ d); no = λ d. eqb-false _ _ (sym e ∙ d) }
-
--- the same question in other words
-pub tells_same : {b : Bool} {P Q : Type 0} → (P → Q) → (Q → P) → Tells b P → Tells b Q
-tells_same f g t = record { yes = λ e. f (t.yes e); no = λ e q. t.no e (g q) }
 
 -- a set with some numbers more; of these a word has those below its width
 pub record Joined (qs : List ℕ) (m r : ℕ) : Type 0 where
@@ -195,22 +175,16 @@ module _ (by : Passing) (code : List Instr) (s : ℕ) where
 
 -- The least.
 
--- what holds of all numbers below p and of p
-pub all_so_far : (P : ℕ → Type 0) (p : ℕ) → ((i : ℕ) → i < p → P i) → P p → (i : ℕ) → i < p + 1 → P i
-all_so_far P p before this i l = which (eq-or-lt_of_le (omega arith))
-  where
-    which : (i ≡ p) ⊎ (i < p) → P i
-    which (inl e) = subst P (sym e) this
-    which (inr k) = before i k
-
--- r is the least number below n of which P holds; n if there is none
-pub record LeastBelow (P : ℕ → Type 0) (n r : ℕ) : Type 0 where
-  pub within : r ≤ n
-  pub holds : r < n → P r
+-- r is the least number below n of which P holds
+pub record Least (P : ℕ → Type 0) (n r : ℕ) : Type 0 where
+  pub within : r < n
+  pub holds : P r
   pub before : (i : ℕ) → i < r → ¬ (P i)
 
-pub none_below : (P : ℕ → Type 0) (n r : ℕ) → r ≡ n → ((i : ℕ) → i < r → ¬ (P i)) → LeastBelow P n r
-none_below P n r e before = record { within = omega arith; holds = λ l. absurd (omega arith); before = before }
+-- the least number below n of which P holds, if there is one
+abbrev pub LeastBelow : (P : ℕ → Type 0) → ℕ → Option ℕ → Type 0
+LeastBelow P n None = (i : ℕ) → i < n → ¬ (P i)
+LeastBelow P n (Some r) = Least P n r
 
 -- a load that was met
 abbrev pub MetLoad : List Instr → ℕ → ℕ → Type 0
@@ -223,13 +197,6 @@ FromPlaceZero code live = Met Anything code 0 live
 -- a place that can be reached: place 0, or one that was met from there
 abbrev pub LiveBy : (live p : ℕ) → Type 0
 LiveBy live p = (p ≡ 0) ⊎ Has live p
-
-pub tells_live : (live p : ℕ) → ¬ (p ≡ 0) → {b : Bool} → Tells b (Has live p) → Tells b (LiveBy live p)
-tells_live live p later = tells_same inr back
-  where
-    back : LiveBy live p → Has live p
-    back (inl e) = absurd (later e)
-    back (inr h) = h
 
 -- a store that counts
 abbrev pub LiveStore : List Instr → (live p : ℕ) → Type 0
@@ -245,16 +212,18 @@ module _ (code : List Instr) (live : ℕ) (from_zero : FromPlaceZero code live) 
   live_is_met inside (inr w) = inr (from_zero.complete s (omega (arith, inside)) w)
 
   -- where a store that counts stands, the loads that were met are the open ones
-  pub open_of : LiveStore code live s → (m r : ℕ) → Met NoFence code s m →
+  pub open_of : LiveStore code live s → (m : ℕ) → Met NoFence code s m → (r : Option ℕ) →
       LeastBelow (MetLoad code m) (length code) r → LeastBelow (OpenIn code s) (length code) r
-  open_of (store, counts) m r met least =
+  open_of (store, counts) m met None none_met = λ i l o. none_met i l (o.pair.load, met.complete i l (o.pair.between, o.pair.walk))
+  open_of (store, counts) m met (Some r) least =
+      let w = met.sound r least.holds.1 in
       record {
         within = least.within;
         holds =
-            λ l.
-            let h = least.holds l in
-            let w = met.sound r h.1 in
-            record { pair = record { store = store; load = h.0; between = w.0; walk = w.1 }; live = is_live counts };
+            record {
+              pair = record { store = store; load = least.holds.0; between = w.0; walk = w.1 };
+              live = is_live counts;
+            };
         before =
             λ i l o.
             least.before i l (o.pair.load, met.complete i (omega (arith, load_inside o.pair)) (o.pair.between, o.pair.walk));
@@ -277,27 +246,9 @@ pub record LeastPair (code : List Instr) (s l : ℕ) : Type 0 where
   pub stores_before : (n : ℕ) → n < s → NoneAt code n
   pub loads_before : (n : ℕ) → n < l → ¬ (OpenIn code s n)
 
-pub record PairMeans (code : List Instr) (r : Pair) : Type 0 where
-  pub least : r.found ≡ true → LeastPair code r.store r.load
-  pub none_open : r.found ≡ false → NoneIn code
-
-module _ (code : List Instr) where
-  pub pair_found :
-      (s l : ℕ) → ((n : ℕ) → n < s → NoneAt code n) → LeastBelow (OpenIn code s) (length code) l → l < length code →
-      PairMeans code (record { found = true; store = s; load = l })
-  pair_found s l stores least below =
-      record {
-        least = λ e. record { is_open = least.holds below; stores_before = stores; loads_before = least.before };
-        none_open = λ e. absurd (true≢false e);
-      }
-
-  -- a store place whose least load would be the thread's length has none
-  pub none_at : (s l : ℕ) → LeastBelow (OpenIn code s) (length code) l → length code ≤ l → NoneAt code s
-  none_at s l least above n o = least.before n (omega (arith, load_inside o.pair)) o
-
-  pub pair_none : (r : Pair) → r.found ≡ false → ((s : ℕ) → s < length code → NoneAt code s) → PairMeans code r
-  pair_none r nothing stores =
-      record { least = λ e. absurd (true≢false (sym e ∙ nothing)); none_open = λ e s l o. stores s (store_inside o.pair) l o }
+abbrev pub PairMeans : List Instr → Option (ℕ × ℕ) → Type 0
+PairMeans code None = NoneIn code
+PairMeans code (Some (s, l)) = LeastPair code s l
 
 -- The least pair of all threads.
 

@@ -1,12 +1,12 @@
 // Fence check: 01, "Replay and fence check", and 02, request 4. Any bytes as a job; nothing is written.
 #![tactic(auto)]
 
-ghost use Rattle.std.specs.Prelude.{◌≡◌, ◌<◌, length};
+ghost use Rattle.std.specs.Prelude.{◌≡◌, ◌<◌, ◌↔◌, IsTrue, length};
 ghost use Rattle.rules.specs.File.{job_of};
 ghost use Rattle.rules.specs.Fences as rules;
 ghost use Rattle.job.specs.Laid.{IsAccepted};
 ghost use Rattle.fences.specs.Meaning.{words, FenceFor, FencePromise};
-ghost use Rattle.fences.specs.Places.{thread_of, Tells, Onwards, Joined, Grown, Met, LeastBelow, MetLoad, FromPlaceZero, LiveBy, LiveStore, PairMeans};
+ghost use Rattle.fences.specs.Places.{thread_of, Onwards, Joined, Grown, Met, LeastBelow, MetLoad, FromPlaceZero, LiveBy, LiveStore, PairMeans};
 
 use job::{Decoded, Layout, PlaceRead};
 use rules::{Control, Passing, Role};
@@ -17,14 +17,6 @@ pub enum Answer {
     Refused(u8, usize),
     Fenced,
     Open(u8, u8, u8),
-}
-
-// The least open pair of one thread, if it has one.
-#[derive(Clone, Copy)]
-struct Pair {
-    found: bool,
-    store: u8,
-    load: u8,
 }
 
 // What the instruction at place p of thread t is to the check; past the thread's end there is none.
@@ -40,26 +32,19 @@ fn role_at(job: &[u8], l: Layout, t: u8, p: u8) -> Role
 
 // Whether a walk may pass an instruction.
 fn passes(by: Passing, own: Role) -> bool
-    ensures { Tells result (rules.Passes by own) }
+    ensures { IsTrue result ↔ rules.Passes by own }
 {
     match by {
         Passing::Anything => true,
-        Passing::NoFence => { if let Role::Fences = own { false } else { true } }
+        Passing::NoFence => !matches!(own, Role::Fences),
     }
 }
 
 // Whether a walk goes on from place p: it is the first itself, or was met and may be passed.
 fn goes_on(by: Passing, met: u64, first: u8, p: u8, own: Role) -> bool
-    ensures { Tells result (Onwards by met first p own) }
+    ensures { IsTrue result ↔ Onwards by met first p own }
 {
-    if p == first {
-        return true;
-    }
-    if passes(by, own) {
-        bits::has(met, p)
-    } else {
-        false
-    }
+    p == first || passes(by, own) && bits::has(met, p)
 }
 
 // The places met, and the successors of place p.
@@ -80,18 +65,14 @@ fn with_successors(met: u64, p: u8, control: Control) -> u64
 // One look at place p.
 fn onward_from(job: &[u8], l: Layout, t: u8, by: Passing, first: u8, p: u8, met: u64) -> u64
     requires accepted { IsAccepted job.now l }
-    requires p_bound { p < 255 }
+    requires next_fits { p < 255 }
     ensures { Grown by (thread_of job.now t) first (λ q. q ≡ p) met result }
 {
     match job::parts::instruction_at(job, l, t, p) {
-        PlaceRead::Holds(i) => {
-            if goes_on(by, met, first, p, kinds::role_of(i)) {
-                with_successors(met, p, kinds::control_of(i))
-            } else {
-                met
-            }
+        PlaceRead::Holds(i) if goes_on(by, met, first, p, kinds::role_of(i)) => {
+            with_successors(met, p, kinds::control_of(i))
         }
-        PlaceRead::Ended => met,
+        _ => met,
     }
 }
 
@@ -100,12 +81,9 @@ fn look(job: &[u8], l: Layout, t: u8, by: Passing, first: u8, earlier: u64) -> u
     requires { IsAccepted job.now l }
     ensures { Grown by (thread_of job.now t) first (λ q. q < length (thread_of job.now t)) earlier result }
 {
-    let n = job::parts::code_length(job, l, t);
     let mut met = earlier;
-    let mut p: u8 = 0;
-    while p < n {
+    for p in 0..job::parts::code_length(job, l, t) {
         met = onward_from(job, l, t, by, first, p, met);
-        p += 1;
     }
     met
 }
@@ -127,91 +105,59 @@ fn places_met(job: &[u8], l: Layout, t: u8, by: Passing, first: u8) -> u64
 // Whether a load stands at place p, and was met.
 fn is_met_load(job: &[u8], l: Layout, t: u8, met: u64, p: u8) -> bool
     requires { IsAccepted job.now l }
-    ensures { Tells result (MetLoad (thread_of job.now t) met p) }
+    ensures { IsTrue result ↔ MetLoad (thread_of job.now t) met p }
 {
-    if let Role::Loads = role_at(job, l, t, p) {
-        bits::has(met, p)
-    } else {
-        false
-    }
+    matches!(role_at(job, l, t, p), Role::Loads) && bits::has(met, p)
 }
 
-// The least load among the places met; the thread's length if there is none.
-fn least_load(job: &[u8], l: Layout, t: u8, met: u64) -> u8
+// The least load among the places met.
+fn least_load(job: &[u8], l: Layout, t: u8, met: u64) -> Option<u8>
     requires { IsAccepted job.now l }
     ensures { LeastBelow (MetLoad (thread_of job.now t) met) (length (thread_of job.now t)) result }
 {
-    let n = job::parts::code_length(job, l, t);
-    let mut place: u8 = 0;
-    while place < n {
-        if is_met_load(job, l, t, met, place) {
-            return place;
-        }
-        place += 1;
-    }
-    n
+    (0..job::parts::code_length(job, l, t)).find(|p| is_met_load(job, l, t, met, *p))
 }
 
 // Whether place p can be reached by moves from place 0, where `live` has the places to which walks from there lead.
 fn is_live(live: u64, p: u8) -> bool
-    ensures { Tells result (LiveBy live p) }
+    ensures { IsTrue result ↔ LiveBy live p }
 {
-    if p == 0 {
-        return true;
-    }
-    bits::has(live, p)
+    p == 0 || bits::has(live, p)
 }
 
 // Whether a store that counts stands at place p.
 fn is_live_store(job: &[u8], l: Layout, t: u8, live: u64, p: u8) -> bool
     requires { IsAccepted job.now l }
-    ensures { Tells result (LiveStore (thread_of job.now t) live p) }
+    ensures { IsTrue result ↔ LiveStore (thread_of job.now t) live p }
 {
-    if let Role::Stores = role_at(job, l, t, p) {
-        is_live(live, p)
-    } else {
-        false
-    }
+    matches!(role_at(job, l, t, p), Role::Stores) && is_live(live, p)
 }
 
-// The least load that is open with the store place; the thread's length if there is none.
-fn open_load(job: &[u8], l: Layout, t: u8, live: u64, store: u8) -> u8
+// The least load that is open with the store place.
+fn open_load(job: &[u8], l: Layout, t: u8, live: u64, store: u8) -> Option<u8>
     requires accepted { IsAccepted job.now l }
     requires from_place_zero { FromPlaceZero (thread_of job.now t) live }
     ensures { LeastBelow (rules.OpenIn (thread_of job.now t) store) (length (thread_of job.now t)) result }
 {
-    if is_live_store(job, l, t, live, store) {
-        let met = places_met(job, l, t, Passing::NoFence, store);
-        least_load(job, l, t, met)
-    } else {
-        job::parts::code_length(job, l, t)
+    if !is_live_store(job, l, t, live, store) {
+        return None;
     }
+    let met = places_met(job, l, t, Passing::NoFence, store);
+    least_load(job, l, t, met)
 }
 
-// The least open pair of thread t.
-fn least_pair(job: &[u8], l: Layout, t: u8) -> Pair
+// The least open pair of thread t: its store place and its load place.
+fn least_pair(job: &[u8], l: Layout, t: u8) -> Option<(u8, u8)>
     requires { IsAccepted job.now l }
     ensures { PairMeans (thread_of job.now t) result }
 {
-    let n = job::parts::code_length(job, l, t);
     let live = places_met(job, l, t, Passing::Anything, 0);
-    let mut store: u8 = 0;
-    while store < n {
-        let load = open_load(job, l, t, live, store);
-        if load < n {
-            return Pair {
-                found: true,
-                store,
-                load,
-            };
+    for store in 0..job::parts::code_length(job, l, t) {
+        if let Some(load) = open_load(job, l, t, live, store) {
+            return Some((store, load));
         }
-        store += 1;
     }
-    Pair {
-        found: false,
-        store: 0,
-        load: 0,
-    }
+    None
 }
 
 // The fence check of an accepted job, thread by thread.
@@ -219,14 +165,10 @@ fn check_accepted(job: &[u8], l: Layout) -> Answer
     requires { IsAccepted job.now l }
     ensures { FenceFor (job_of job.now).threads (words result) }
 {
-    let count = l.threads;
-    let mut t: u8 = 0;
-    while t < count {
-        let pair = least_pair(job, l, t);
-        if pair.found {
-            return Answer::Open(t, pair.store, pair.load);
+    for t in 0..l.threads {
+        if let Some((store, load)) = least_pair(job, l, t) {
+            return Answer::Open(t, store, load);
         }
-        t += 1;
     }
     Answer::Fenced
 }

@@ -11,7 +11,7 @@ fn search_words(a: search::Answer) -> [u64; 4]
     ensures { result ≡ search_meaning.words a }
 {
     match a {
-        search::Answer::Refused(number, offset) => [0, number as u64, offset as u64, 0],
+        search::Answer::Refused(number, offset) => [0, u64::from(number), offset as u64, 0],
         search::Answer::Reachable(d, states) => [1, d as u64, states as u64, 0],
         search::Answer::Unreachable(states) => [2, states as u64, 0, 0],
         search::Answer::Unknown(slots) => [3, slots as u64, 0, 0],
@@ -23,7 +23,7 @@ fn replay_words(a: replay::Answer) -> [u64; 4]
     ensures { result ≡ replay_meaning.words a }
 {
     match a {
-        replay::Answer::Refused(number, offset) => [0, number as u64, offset as u64, 0],
+        replay::Answer::Refused(number, offset) => [0, u64::from(number), offset as u64, 0],
         replay::Answer::Reaches => [1, 0, 0, 0],
         replay::Answer::FallsShort => [2, 0, 0, 0],
         replay::Answer::Stuck(i, why) => [3, i as u64, reasons::number_of(why), 0],
@@ -35,9 +35,9 @@ fn fences_words(a: fences::Answer) -> [u64; 4]
     ensures { result ≡ fences_meaning.words a }
 {
     match a {
-        fences::Answer::Refused(number, offset) => [0, number as u64, offset as u64, 0],
+        fences::Answer::Refused(number, offset) => [0, u64::from(number), offset as u64, 0],
         fences::Answer::Fenced => [1, 0, 0, 0],
-        fences::Answer::Open(t, s, l) => [2, t as u64, s as u64, l as u64],
+        fences::Answer::Open(t, s, l) => [2, u64::from(t), u64::from(s), u64::from(l)],
     }
 }
 
@@ -53,8 +53,7 @@ pub extern "C" fn handshake_search(
         (record { table = table.old; links = links.old; schedule = schedule.old }) answer.new
         (record { table = table.new; links = links.new; schedule = schedule.new }) }
 {
-    let found = search_words(search::search(table, links, schedule, job));
-    *answer = found;
+    *answer = search_words(search::search(table, links, schedule, job));
 }
 
 // The same search with an index in one more slice, which is for speed alone: N is then also at most half its length.
@@ -71,22 +70,19 @@ pub extern "C" fn handshake_search_indexed(
         (record { table = table.old; links = links.old; schedule = schedule.old }) index.old answer.new
         (record { table = table.new; links = links.new; schedule = schedule.new }) index.new }
 {
-    let found = search_words(search::indexed::search_indexed(table, links, schedule, index, job));
-    *answer = found;
+    *answer = search_words(search::indexed::search_indexed(table, links, schedule, index, job));
 }
 
 #[unsafe(no_mangle)]
 pub extern "C" fn handshake_replay(job: &[u8], schedule: &[u8], answer: &mut [u64; 4])
     ensures { replay_meaning.ReplayPromise job.now schedule.now answer.new }
 {
-    let replayed = replay_words(replay::replay(job, schedule));
-    *answer = replayed;
+    *answer = replay_words(replay::replay(job, schedule));
 }
 
 #[unsafe(no_mangle)]
 pub extern "C" fn handshake_fences(job: &[u8], answer: &mut [u64; 4])
     ensures { fences_meaning.FencePromise job.now answer.new }
 {
-    let checked = fences_words(fences::fences(job));
-    *answer = checked;
+    *answer = fences_words(fences::fences(job));
 }

@@ -1,19 +1,18 @@
 -- The whole search, from what its parts promise.
-use Rattle.std.specs.Prelude.{◌≡◌, refl, false, List, ℕ, zero, suc, ◌+◌, ◌/◌, ◌≤◌, ◌<◌, min, length, get_or}
+use Rattle.std.specs.Prelude.{◌≡◌, refl, List, ℕ, zero, suc, ◌+◌, ◌/◌, ◌≤◌, ◌<◌, min, length, get_or}
 use Rattle.std.proofs.Common.{sym, ◌∙◌, ap, subst, mul-le-mul_left, arith}
 use Rattle.reach.specs.Words.{refusal_words, answer_words}
-use Rattle.reach.specs.Meaning.{no_link, Answer, reachable, unreachable, unknown}
+use Rattle.reach.specs.Meaning.{Answer, reachable, unreachable, unknown}
 use Rattle.lent.specs.Meaning.{Lent, slots_lent, IsAnswered, AnsweredWith}
-use Rattle.lent.specs.Parts.{Memory, with_one_more, Expanded}
+use Rattle.lent.specs.Parts.{Expanded}
 use Rattle.lent.specs.Kept.{Lends}
-use Rattle.lent.specs.Searching.{Searching}
 use Rattle.chains.specs.Chains.{Cleared}
 use Rattle.chains.specs.ChainLaws.{indexed_none}
 use Rattle.shelf.specs.Front.{memory, Ready, Fits, PutDone}
 use Rattle.shelf.specs.declared.Front.{Front}
 use Rattle.rules.specs.Limits.{slot_size, most_slots}
 use Rattle.rules.specs.State as rules
-use Rattle.rules.specs.Job.{Job, start}
+use Rattle.rules.specs.Job.{Job}
 use Rattle.rules.specs.File.{accepted, refused, decode, job_of}
 use Rattle.rules.specs.Slot.{slot_bytes}
 use Rattle.rules.specs.Machine.{machine}
@@ -59,14 +58,6 @@ pub put_alone :
     (N : ℕ) (t l : List ℕ) (f : Front) (bytes : List ℕ) (k : ℕ) (t' l' index' : List ℕ) (width : ℕ) (f' : Front) →
     PutDone slot_size N t l f bytes k t' l' index' 0 f' → width ≡ 0 → PutDone slot_size N t l f bytes k t' l' index' width f'
 put_alone N t l f bytes k t' l' index' width f' h none = subst (λ w. PutDone slot_size N t l f bytes k t' l' index' w f') (sym none) h
-
--- the memory e is the lent one with the start in slot 0
-abbrev pub Begun : (j : Job) → Lent → Memory → Type 0
-Begun j m e = e ≡ with_one_more slot_size (record { table = m.table; links = m.links; count = 0; full = false }) (slot_bytes (start j)) no_link
-
--- the search has come to this turn, from whatever memory was lent
-abbrev pub Turning : (j : Job) (N : ℕ) → Memory → (d mark next : ℕ) → Memory → Type 0
-Turning j N e₀ d mark next e = (m : Lent) → Lends slot_size N m.table m.links → Begun j m e₀ → Searching (coding j) N m.table m.links d mark next e
 
 -- as many slots as are lent fit in what is lent
 pub record Counted (N : ℕ) (m : Lent) : Type 0 where

@@ -4,7 +4,7 @@
 
 pub mod indexed;
 
-ghost use Rattle.std.specs.Prelude.{◌≡◌, ℕ, ◌*◌, ◌≤◌, ◌<◌, length, Ok};
+ghost use Rattle.std.specs.Prelude.{◌≡◌, ℕ, ◌*◌, ◌≤◌, ◌<◌, length, Ok, MatchOption};
 ghost use Rattle.reach.specs.Meaning.{link};
 ghost use Rattle.lent.specs.Meaning.{IsAnswered, AnsweredWith};
 ghost use Rattle.lent.specs.Parts.{Stands, FirstGoal};
@@ -50,14 +50,14 @@ fn put_next(
     l: Layout,
 ) -> Front
     requires fits { Fits slot_size slots table.old links.old index.old width front }
-    requires q_lt_most_slots { q < most_slots }
+    requires slot_in_range { q < most_slots }
     requires at { At job.now l x }
-    requires x_value { may (job_of job.now) s (held x) ≡ Ok tt }
+    requires may_be_taken { may (job_of job.now) s (held x) ≡ Ok tt }
     ensures { PutDone slot_size slots table.old links.old front
         (slot_bytes (after (job_of job.now) s (held x))) (link q s) table.new links.new index.new width result }
 {
     let y = engine::take(job, l, x, s);
-    let link = 64 * (q as u32) + (s as u32);
+    let link = 64 * (q as u32) + u32::from(s);
     // Each way lays the state out for itself: without an index its pieces are then held in registers, which a look-up by chains does not allow.
     if width == 0 {
         let bytes = slot::bytes_of(y);
@@ -80,7 +80,8 @@ fn expand(
     l: Layout,
 ) -> Front
     requires fits { Fits slot_size slots table.old links.old index.old width front }
-    requires q_lt_count { (q < front.count) × (slots ≤ most_slots) }
+    requires counted { q < front.count }
+    requires most { slots ≤ most_slots }
     requires accepted { IsAccepted job.now l }
     requires stands { Stands (coding (job_of job.now)) table.old q }
     ensures { ExpandDone (job_of job.now) slots q table.old links.old front table.new links.new
@@ -88,42 +89,37 @@ fn expand(
 {
     let x = slot::read_slot(table, q);
     let mask = engine::enabled(job, l, x);
-    let tries = bits::count(mask);
     let mut left = mask;
-    let mut tried: u32 = 0;
     let mut at = front;
-    while tried < tries {
+    for _tried in 0..bits::count(mask) {
         let s = bits::lowest(left);
         left = bits::without_lowest(left);
         at = put_next(table, links, index, width, at, slots, q, s, x, job, l);
         if at.full {
             return at;
         }
-        tried += 1;
     }
     at
 }
 
-// The first slot from lo on that holds a goal; as many as are counted where none does.
-fn find_goal(table: &[u8], lo: usize, count: usize, job: &[u8], l: Layout) -> usize
-    requires lo_le_count { (lo ≤ count) × (slot_size * count ≤ length table.now) }
+// The first slot from lo on that holds a goal.
+fn find_goal(table: &[u8], lo: usize, count: usize, job: &[u8], l: Layout) -> Option<usize>
+    requires in_order { lo ≤ count }
+    requires in_table { slot_size * count ≤ length table.now }
     requires accepted { IsAccepted job.now l }
-    requires by_index { (i : ℕ) → i < count → Stands (coding (job_of job.now)) table.now i }
-    ensures { FirstGoal (coding (job_of job.now)) table.now lo count result }
+    requires stand { (i : ℕ) → i < count → Stands (coding (job_of job.now)) table.now i }
+    ensures { MatchOption result (FirstGoal (coding (job_of job.now)) table.now lo count count)
+        (λ g. (g < count) × FirstGoal (coding (job_of job.now)) table.now lo count g) }
 {
-    let mut i = lo;
-    while i < count {
-        let x = slot::read_slot(table, i);
-        if engine::goal(job, l, x) {
-            return i;
+    for i in lo..count {
+        if engine::goal(job, l, slot::read_slot(table, i)) {
+            return Some(i);
         }
-        i += 1;
     }
-    i
+    None
 }
 
-// A turn judges a level that is whole, or expands one state. The states before slot `next` are expanded; those from slot `mark` on are at
-// distance d, and their level is whole when `next` has come to `mark`.
+// A turn judges a level that is whole, and then expands its states: those from slot `mark` on, which are at distance d.
 fn turns(
     table: &mut [u8],
     links: &mut [u32],
@@ -135,7 +131,9 @@ fn turns(
     l: Layout,
 ) -> Answer
     requires accepted { IsAccepted job.now l }
-    requires slots_nonzero { (0 < slots) × (slots ≤ most_slots) × (slots ≤ length schedule.old) }
+    requires some_slot { 0 < slots }
+    requires most { slots ≤ most_slots }
+    requires steps { slots ≤ length schedule.old }
     requires lends { Lends slot_size slots table.old links.old }
     requires ready { Ready slot_size slots table.old index.old width 0 }
     ensures { IsAnswered (machine (job_of job.now)) slot_size slot_bytes slots
@@ -157,29 +155,25 @@ fn turns(
         &start,
         shelf::NO_LINK,
     );
-    let mut next: usize = 0;
     let mut mark: usize = 0;
     let mut d: usize = 0;
     'turns: loop {
-        if next < mark {
+        let count = front.count;
+        if let Some(goal) = find_goal(table, mark, count, job, l) {
+            shelf::write_schedule(schedule, links, d, goal);
+            return Answer::Reachable(d, count);
+        }
+        if count <= mark {
+            return Answer::Unreachable(count);
+        }
+        for next in mark..count {
             front = expand(table, links, index, width, front, slots, next, job, l);
             if front.full {
                 return Answer::Unknown(slots);
             }
-            next += 1;
-        } else {
-            let count = front.count;
-            let goal = find_goal(table, mark, count, job, l);
-            if goal < count {
-                shelf::write_schedule(schedule, links, d, goal);
-                return Answer::Reachable(d, count);
-            }
-            if count <= mark {
-                return Answer::Unreachable(count);
-            }
-            mark = count;
-            d += 1;
         }
+        mark = count;
+        d += 1;
     }
 }
 
@@ -187,13 +181,10 @@ fn turns(
 fn slots_lent(table: &[u8], links: &[u32], schedule: &[u8]) -> usize
     ensures { Counted result (record { table = table.now; links = links.now; schedule = schedule.now }) }
 {
-    shelf::smaller(
-        table.len() / rules::SLOT_SIZE,
-        shelf::smaller(
-            links.len(),
-            shelf::smaller(schedule.len(), rules::MOST_SLOTS),
-        ),
-    )
+    (table.len() / rules::SLOT_SIZE)
+        .min(links.len())
+        .min(schedule.len())
+        .min(rules::MOST_SLOTS)
 }
 
 // The search of an accepted job with so many slots: the index, whatever it holds, is made empty first.
@@ -229,12 +220,11 @@ pub fn search(table: &mut [u8], links: &mut [u32], schedule: &mut [u8], job: &[u
     match job::decode(job) {
         Decoded::Accepted(model) => {
             let slots = slots_lent(table, links, schedule);
-            let mut none: [u32; 1] = [0];
             search_accepted(
                 table,
                 links,
                 schedule,
-                &mut none,
+                &mut [],
                 0,
                 slots,
                 job,

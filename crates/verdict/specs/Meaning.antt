@@ -1,5 +1,5 @@
 -- Which of RELEASE and HOLD is said, for every input: 01, "Bench program".
-use Rattle.std.specs.Prelude.{◌≡◌, Bool, true, false, ◌↔◌, List, [], ◌∷◌, ℕ, ◌≤◌, length, take}
+use Rattle.std.specs.Prelude.{◌≡◌, Bool, true, false, ◌↔◌, List, [], ◌∷◌, ℕ}
 use Rattle.reach.specs.Meaning.{unreachable}
 use Rattle.rules.specs.Job.{Job}
 use Rattle.rules.specs.File.{accepted, decode, job_of}
@@ -10,7 +10,6 @@ use Rattle.lent.specs.Meaning.{Lent}
 use Rattle.search.specs.Meaning as search
 use Rattle.fences.specs.Meaning as fences
 use Rattle.verdict.specs.declared.Verdict.{Verdict}
-use Rattle.verdict.specs.declared.Line.{Line}
 
 -- "under SC only if the flag is 1 and the program FENCED"
 abbrev pub ScAsks : Job → List ℕ → Type 0
@@ -34,8 +33,3 @@ pub record VerdictPromise (bytes : List ℕ) (m : Lent) (v : Verdict) (m' : Lent
 abbrev pub line_of : Bool → List ℕ
 line_of true = 82 ∷ 69 ∷ 76 ∷ 69 ∷ 65 ∷ 83 ∷ 69 ∷ 10 ∷ []
 line_of false = 72 ∷ 79 ∷ 76 ∷ 68 ∷ 10 ∷ []
-
--- the first bytes of the text are the line, and nothing is said of what is behind them
-pub record Spells (r : Line) (l : List ℕ) : Type 0 where
-  pub is : take r.count r.text ≡ l
-  pub inside : r.count ≤ length r.text

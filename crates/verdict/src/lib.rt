@@ -7,7 +7,7 @@ ghost use Rattle.rules.specs.Fences.{fenced};
 ghost use Rattle.job.specs.Laid.{IsAccepted};
 ghost use Rattle.search.specs.Meaning as search_meaning;
 ghost use Rattle.fences.specs.Meaning as fences_meaning;
-ghost use Rattle.verdict.specs.Meaning.{ScAsks, MayRelease, VerdictPromise, line_of, Spells};
+ghost use Rattle.verdict.specs.Meaning.{ScAsks, MayRelease, VerdictPromise, line_of};
 ghost use Rattle.verdict.specs.Released.{Released};
 
 use job::{Decoded, Layout};
@@ -21,38 +21,17 @@ pub struct Verdict {
     pub release: bool,
 }
 
-// The verdict's line: so many bytes of the text.
-#[derive(Clone, Copy)]
-pub struct Line {
-    pub text: [u8; 8],
-    pub count: usize,
-}
-
 // RELEASE or HOLD as it is printed, with the line's end.
-pub fn last_line(release: bool) -> Line
-    ensures { Spells result (line_of release) }
+pub fn last_line(release: bool) -> &'static [u8]
+    ensures { result.now ≡ line_of release }
 {
-    if release {
-        Line {
-            text: [82, 69, 76, 69, 65, 83, 69, 10],
-            count: 8,
-        }
-    } else {
-        Line {
-            text: [72, 79, 76, 68, 10, 0, 0, 0],
-            count: 5,
-        }
-    }
+    if release { b"RELEASE\n" } else { b"HOLD\n" }
 }
 
 fn is_fenced(checked: fences::Answer) -> bool
     ensures { (result ≡ true) ↔ (fences_meaning.words checked ≡ fences_meaning.checked_words fenced) }
 {
-    match checked {
-        fences::Answer::Refused(_, _) => false,
-        fences::Answer::Fenced => true,
-        fences::Answer::Open(_, _, _) => false,
-    }
+    matches!(checked, fences::Answer::Fenced)
 }
 
 // Whether the job's model lets "unreachable" stand for the hardware: SC does so only for goals with empty buffers, and fenced programs.
@@ -60,17 +39,9 @@ fn model_allows(job: &[u8], l: Layout, checked: fences::Answer) -> bool
     requires { IsAccepted job.now l }
     ensures { (result ≡ true) ↔ ScAsks (job_of job.now) (fences_meaning.words checked) }
 {
-    let model = l.model;
-    match model {
-        Model::Sc => {
-            if job::parts::flag(job, l) {
-                is_fenced(checked)
-            } else {
-                false
-            }
-        }
-        Model::Tso => true,
-        Model::Pso => true,
+    match l.model {
+        Model::Sc => job::parts::flag(job, l) && is_fenced(checked),
+        Model::Tso | Model::Pso => true,
     }
 }
 
@@ -78,15 +49,13 @@ fn model_allows(job: &[u8], l: Layout, checked: fences::Answer) -> bool
 fn may_release(job: &[u8], found: search::Answer, checked: fences::Answer) -> bool
     ensures { (result ≡ true) ↔ MayRelease job.now (search_meaning.words found) (fences_meaning.words checked) }
 {
-    match found {
-        search::Answer::Refused(_, _) => false,
-        search::Answer::Reachable(_, _) => false,
-        search::Answer::Unreachable(_) => match job::decode(job) {
-            Decoded::Accepted(model) => model_allows(job, job::layout_of(job, model), checked),
-            Decoded::Refused(_, _) => false,
-        },
-        search::Answer::Unknown(_) => false,
-    }
+    let search::Answer::Unreachable(_) = found else {
+        return false;
+    };
+    let Decoded::Accepted(model) = job::decode(job) else {
+        return false;
+    };
+    model_allows(job, job::layout_of(job, model), checked)
 }
 
 // The verdict on any bytes with any lent memory.

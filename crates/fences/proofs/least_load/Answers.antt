@@ -1,28 +1,20 @@
-use native.Mathlib.Omega.{arith}
-use Rattle.fences.specs.Places.{none_below, MetLoad, all_so_far}
+-- `fences::least_load` meets its contract: the first place of the thread where a load that was met stands.
+use Rattle.std.proofs.Common.{◌≡◌, refl, ℕ, ◌≤◌, ◌<◌, Option, None, Some, MatchOption, rules, tests, arith}
+use Rattle.std.proofs.lemmas.Iterator.{first_from_Range}
+use Rattle.fences.specs.Places.{thread_of, LeastBelow, MetLoad}
 use Rattle.fences.proofs.least_load.Goals as goal
 
-pub loop-place-init : goal.loop-place-init
-loop-place-init c = record { within = omega arith; passed = λ i l. absurd (omega arith) }
-
-pub is_met_load-requires : goal.is_met_load-requires
-is_met_load-requires c = c.requires
-
-pub returns-then-is_met_load : goal.returns-then-is_met_load
-returns-then-is_met_load c =
-    record {
-      within = omega (arith, c.code_length-n.ensures);
-      holds = λ l. c.is_met_load.ensures.yes c.if-is_met_load.true;
-      before = c.loop-place.invariant.passed;
-    }
-
-pub loop-place-preserved : goal.loop-place-preserved
-loop-place-preserved c =
-    record {
-      within = omega arith;
-      passed =
-          all_so_far (λ i. ¬ (MetLoad _ _ i)) _ c.loop-place.invariant.passed (c.is_met_load.ensures.no c.if-is_met_load.false);
-    }
+-- what `find` says of a range from 0
+least_from_first :
+    (P : ℕ → Type 0) (n s e : ℕ) → s ≡ 0 → e ≡ n → (r : Option ℕ) →
+    MatchOption r ((k : ℕ) → s ≤ k → k < e → ¬ (P k)) (λ i. (s ≤ i) × (i < e) × P i × ((k : ℕ) → s ≤ k → k < i → ¬ (P k))) →
+    LeastBelow P n r
+least_from_first P n s e is_start is_end None none_holds = λ i l. none_holds i (omega arith) (omega arith)
+least_from_first P n s e is_start is_end (Some r) first =
+    record { within = omega (arith, first.1); holds = first.2; before = λ i l. first.3 i (omega arith) l }
 
 pub returns : goal.returns
-returns c = none_below _ _ _ c.code_length-n.ensures (λ i l. c.loop-place.invariant.passed i (omega arith))
+returns c =
+    let Yes : ℕ → Type 0 = MetLoad (thread_of c.args.job.now c.args.t) c.args.met in
+    least_from_first _ _ _ _ refl c.code_length.ensures _
+    (first_from_Range _ _ _ c.find.result Yes (λ p. ¬ (Yes p)) c.find.ensures.ran (λ x q k. search (rules, tests)) (λ x q k. search (rules, tests)))

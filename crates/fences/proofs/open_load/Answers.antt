@@ -1,13 +1,14 @@
 -- `fences::open_load` meets its contract: where a store that counts stands, the loads met are the open ones; elsewhere there are none.
-use Rattle.fences.specs.Places.{none_below, open_of, open_none}
+use Rattle.std.proofs.Common.{sym, ◌∙◌}
+use Rattle.std.proofs.lemmas.Bool.{false≢true}
+use Rattle.fences.specs.Places.{open_of, open_none}
 use Rattle.fences.proofs.open_load.Goals as goal
 
-pub returns-then-is_live_store : goal.returns-then-is_live_store
-returns-then-is_live_store c =
-    open_of _ _ c.requires.from_place_zero _ (c.is_live_store.ensures.yes c.if-is_live_store.true) _ _
-    c.places_met-met.ensures c.least_load.ensures
+pub returns-then-not-is_live_store : goal.returns-then-not-is_live_store
+returns-then-not-is_live_store c =
+    λ l within. open_none _ _ c.requires.from_place_zero _ (λ live. false≢true (sym c.if-not-is_live_store.true ∙ c.is_live_store.ensures.1 live)) l
 
-pub returns-else-is_live_store : goal.returns-else-is_live_store
-returns-else-is_live_store c =
-    none_below _ _ _ c.code_length.ensures
-    (λ l below. open_none _ _ c.requires.from_place_zero _ (c.is_live_store.ensures.no c.if-is_live_store.false) l)
+pub returns : goal.returns
+returns c =
+    open_of _ _ c.requires.from_place_zero _ (c.is_live_store.ensures.0 c.if-not-is_live_store.false) _ c.places_met-met.ensures _
+    c.least_load.ensures

@@ -1,7 +1,4 @@
 -- `search::expand` meets its contract: the steps below the lowest that is left were tried.
-use mathlib.Core.Path.{◌≡◌}
-use Prim.Native.Nat.{◌-◌}
-use lib.ListN.{length}
 use Rattle.shelf.specs.Front.{memory, Fits}
 use Rattle.rules.specs.Limits.{slot_size}
 use Rattle.rules.specs.File.{job_of}
@@ -10,11 +7,5 @@ use Rattle.search.specs.Walking.{Walking}
 use Rattle.search.proofs.expand.Given as goal
 
 abbrev pub invariant-loop-tried : goal.invariant-loop-tried
-invariant-loop-tried l = Walking (job_of l.job) l.slots l.q (held l.x) l.tries (memory l.initial.table l.initial.links l.initial.at) (memory l.table l.links l.at) l.left l.tried
+invariant-loop-tried l = Walking (job_of l.job) l.slots l.q (held l.x) l._tried-end (memory l.initial.table l.initial.links l.initial.at) (memory l.table l.links l.at) l.left l._tried
     × Fits slot_size l.slots l.table l.links l.index l.width l.at
-    × (length l.table ≡ length l.initial.table)
-    × (length l.links ≡ length l.initial.links)
-    × (length l.index ≡ length l.initial.index)
-
-abbrev pub decreases-loop-tried : goal.decreases-loop-tried
-decreases-loop-tried l = l.tries - l.tried

@@ -1,5 +1,4 @@
 -- `search::find_goal` meets its contract: no slot that was passed holds a goal.
-use Prim.Native.Nat.{◌-◌}
 use Rattle.lent.specs.Looking.{Looking}
 use Rattle.rules.specs.File.{job_of}
 use Rattle.search.specs.Coded.{coding}
@@ -7,6 +6,3 @@ use Rattle.search.proofs.find_goal.Given as goal
 
 abbrev pub invariant-loop-i : goal.invariant-loop-i
 invariant-loop-i l = Looking (coding (job_of l.job)) l.table l.lo l.count l.i
-
-abbrev pub decreases-loop-i : goal.decreases-loop-i
-decreases-loop-i l = l.count - l.i

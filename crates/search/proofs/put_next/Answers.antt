@@ -7,10 +7,10 @@ put-requires c = fits_laid _ _ _ _ _ _ _ (laid_out _ _ c.take-y.ensures _ c.byte
 
 pub returns-then-width-eq0 : goal.returns-then-width-eq0
 returns-then-width-eq0 c =
-    put_alone _ _ _ _ _ _ _ _ _ _ _ (put_laid _ _ _ _ _ _ _ (laid_out _ _ c.take-y.ensures _ c.bytes_of-bytes.ensures) _ _ _ _ _ c.put.ensures) c.if-width-eq0.true
+    put_alone _ _ _ _ _ _ _ _ _ _ _ (put_laid _ _ _ _ _ _ _ (laid_out _ _ c.take-y.ensures _ c.bytes_of-bytes.ensures) _ _ _ _ _ (rw c.from.ensures at c.put.ensures)) c.if-width-eq0.true
 
 pub put-requires-2 : goal.put-requires-2
 put-requires-2 c = fits_laid _ _ _ _ _ _ _ (laid_out _ _ c.take-y.ensures _ c.bytes_of-bytes-2.ensures) _ c.requires.fits
 
 pub returns : goal.returns
-returns c = put_laid _ _ _ _ _ _ _ (laid_out _ _ c.take-y.ensures _ c.bytes_of-bytes-2.ensures) _ _ _ _ _ c.put-2.ensures
+returns c = put_laid _ _ _ _ _ _ _ (laid_out _ _ c.take-y.ensures _ c.bytes_of-bytes-2.ensures) _ _ _ _ _ (rw c.from.ensures at c.put-2.ensures)

@@ -14,7 +14,7 @@ clear-requires c = c.requires.has_room.chains
 pub turns-requires : goal.turns-requires
 turns-requires c =
     let room = c.requires.has_room in
-    record { accepted = c.requires.accepted; slots_nonzero = (omega (arith, c.if-slots-eq0.false), room.most, room.steps); lends = room.lends; ready = ready_start _ _ _ _ _ room c.clear.auto.index c.clear.ensures }
+    record { accepted = c.requires.accepted; some_slot = omega (arith, c.if-slots-eq0.false); most = room.most; steps = room.steps; lends = room.lends; ready = ready_start _ _ _ _ _ room c.clear.auto.index c.clear.ensures }
 
 pub returns : goal.returns
 returns c = (answered_some _ _ _ _ _ c.if-slots-eq0.false c.turns.ensures, λ none. absurd (c.if-slots-eq0.false none))
