@@ -11,12 +11,12 @@ use Rattle.machine.proofs.effects.stored.Goals as goal
 pub with_last-more-requires : goal.with_last-more-requires
 unfolding has_room
 with_last-more-requires c =
-    record { has_room = room_under c.buffer.ensures (rw c.in-Tso.is at c.requires.x_value); v_lt_group_unit = omega (arith, c.requires.v_lt_most_variables) }
+    record { has_room = room_under c.buffer.ensures (rw c.in-Tso.is at c.requires.x_value); is_variable = omega (arith, c.requires.is_variable) }
 
 pub with_sorted-sorted-requires : goal.with_sorted-sorted-requires
 unfolding has_room
 with_sorted-sorted-requires c =
-    group_under _ c.buffer-in-Pso.ensures (rw c.in-Pso.is at c.requires.x_value) c.requires.v_lt_most_variables c.requires.group_fits
+    group_under _ c.buffer-in-Pso.ensures (rw c.in-Pso.is at c.requires.x_value) c.requires.is_variable c.requires.group_fits
 
 pub returns-in-Sc : goal.returns-in-Sc
 unfolding stored
