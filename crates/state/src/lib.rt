@@ -24,6 +24,7 @@ pub struct State {
 }
 
 // The place that thread t is at.
+#[tactic(auto, unfolding(rules::specs::State::place, crate::specs::Held::held))]
 pub fn place(x: State, t: u8) -> u8
     requires { At x t }
     ensures { result ≡ place t (held x) }

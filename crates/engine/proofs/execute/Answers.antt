@@ -17,7 +17,7 @@ execute-requires c =
     let i = c.in-Holds.is in record {
       runs = runs (job_of _) a.accepted.in_range _ a.ok a.well _ c.requires.t_lt_most_threads;
       instr_ok = operands_by_read a.accepted _ _ read i;
-      x_value = free_by_read a.accepted _ _ read _ c.requires.t_lt_most_threads place i c.requires.x_value;
+      may_be_taken = free_by_read a.accepted _ _ read _ c.requires.t_lt_most_threads place i c.requires.x_value;
       group_fits = group_fits (job_of _) a.accepted.in_range _ (buffer_in (job_of _) _ a.well _);
     }
 

@@ -10,7 +10,7 @@ pub initial-requires : goal.initial-requires
 initial-requires c = c.requires
 
 pub with_variable-x-requires : goal.with_variable-x-requires
-with_variable-x-requires c = record { state_ok = c.loop-cell.invariant.0.ok; v_lt_most_variables = c.loop-cell-test.true }
+with_variable-x-requires c = record { state_ok = c.loop-cell.invariant.0.ok; is_variable = c.loop-cell-test.true }
 
 pub loop-cell-preserved : goal.loop-cell-preserved
 loop-cell-preserved c =
