@@ -2,22 +2,21 @@
 use mathlib.Core.Path.{◌≡◌, refl, sym, ap, ap₂, subst, ◌∙◌}
 use mathlib.Core.Bool.{Bool, true, false, not, ◌&&◌}
 use mathlib.Core.List.{List, [], ◌∷◌, ◌++◌}
-use Prim.Native.Nat.{ℕ, zero, suc, ◌+◌, ◌*◌, ◌-◌, ◌/◌, ◌%◌, ◌≤◌, ◌<◌}
+use Prim.Native.Nat.{ℕ, zero, suc, ◌+◌, ◌-◌, ◌/◌, ◌%◌, ◌≤◌, ◌<◌}
 use native.Mathlib.Numerals.{add-one}
 use native.Mathlib.Omega.{arith}
 use lib.Dec.{leb}
 use lib.ListN.{length, get_or, set, take, drop, replicate, length-set}
-use Rattle.rules.specs.Limits.{most_pending, group_unit, mark_unit, entry_size, entries_size}
+use Rattle.rules.specs.Limits.{most_pending, group_unit, mark_unit, entries_size}
 use Rattle.rules.specs.State.{Pending, Buffer, empty_buffer}
-use Rattle.rules.specs.Slot.{mark_byte}
+use Rattle.rules.specs.Slot.{mark_byte, high, low}
 use Rattle.rules.specs.Step.{lowered, counted, marked_buffer, is_empty}
-use Rattle.words.specs.Words.{word}
 use Rattle.rules.specs.BufferLaws.{lower, lowered_length, lowered_none}
 use Rattle.buffer.specs.Held.{entry, entries, EntryLows, number, held_pending, held_buffer, BufferOk}
 use Rattle.buffer.specs.HeldLaws.{count_both, held_entries, entries_held, rest_unused, held_number, held_at, held_few, holds}
-use Rattle.buffer.specs.EntryLaws.{entries_number, entries_at, entries_set, set_lows, low_at}
+use Rattle.buffer.specs.EntryLaws.{entries_number, entries_at, entries_written, written_lows}
 use Rattle.buffer.specs.Places.{no_entry, entry_at, set_entry, padded}
-use Rattle.buffer.specs.Posts.{Holds, counted_buffer}
+use Rattle.buffer.specs.Posts.{read_entry, Holds, counted_buffer}
 use Rattle.buffer.specs.declared.Buf.{Buf}
 
 -- the entries below index i have their groups lowered by g, the others are as they were
@@ -95,22 +94,19 @@ module _ (b : Buf) (ok : BufferOk b) where
     lowering_starts = record { size = ok.size; lows = ok.lows; is = refl }
 
     pub lowering_goes_on : (s : List ℕ) (i byte : ℕ) → i < most_pending
-        → (byte / group_unit ≡ get_or b.slots (entry_size * i) 0 / group_unit - g) × (byte % group_unit ≡ get_or b.slots (entry_size * i) 0 % group_unit)
+        → (byte / group_unit ≡ (read_entry b.slots i).byte / group_unit - g) × (byte % group_unit ≡ (read_entry b.slots i).byte % group_unit)
         → Lowering (entries b.slots) g s i
-        → Lowering (entries b.slots) g
-        (set_entry s i byte (get_or b.slots (entry_size * i + 1) 0) (get_or b.slots (entry_size * i + 2) 0)) (i + 1)
+        → Lowering (entries b.slots) g (set_entry s i byte (high (read_entry b.slots i).value) (low (read_entry b.slots i).value)) (i + 1)
     lowering_goes_on s i byte few e h =
         let all = entries b.slots in
-        let high = get_or b.slots (entry_size * i + 1) 0 in
-        let low = get_or b.slots (entry_size * i + 2) 0 in
-        let value = word high low in
+        let value = (read_entry b.slots i).value in
         let below : i < length all = omega (arith, entries_number most_pending b.slots ok.size) in
         let lowered_entry : entry byte value ≡ lower g (entry_at b.slots i) = λ j. record { group = e.0 j; variable = e.1 j; value = value } in
         record {
           size = simp length-set h.size;
-          lows = set_lows most_pending s h.size i byte high low (low_at most_pending b.slots ok.size i ok.lows) h.lows;
+          lows = written_lows most_pending s h.size i byte value h.lows;
           is =
-              entries_set most_pending s h.size i byte high low
+              entries_written most_pending s h.size i byte value
               ∙ ap₂ (λ r p. set r i p) h.is (lowered_entry ∙ ap (lower g) (sym (entries_at most_pending b.slots ok.size i)))
               ∙ lower_one g all i below
               ∙ sym (ap (λ n. lowered g (take n all) ++ drop n all) (add-one i));

@@ -1,4 +1,4 @@
-pub mod CarryLaws
+pub mod MoveLaws
 pub mod PlaceLaws
 pub mod ReadLaws
 pub mod GroupLaws

@@ -1,6 +1,7 @@
 -- Entries of three bytes: bytes by threes are those of their entries, and an entry is read and written by its index.
-use Rattle.std.specs.Prelude.{◌≡◌, refl, List, [], ◌∷◌, ◌++◌, ℕ, zero, suc, ◌+◌, ◌*◌, ◌/◌, ◌%◌, length, get_or, set, take, replicate}
-use Rattle.std.proofs.Common.{ap, ap₂, arith}
+use Rattle.std.specs.Prelude.{◌≡◌, refl, List, [], ◌∷◌, ◌++◌, ℕ, zero, suc, ◌+◌, ◌-◌, ◌*◌, ◌/◌, ◌%◌, ◌≤◌, length, get_or, set, take, drop, replicate}
+use Rattle.std.specs.List.{copy_within}
+use Rattle.std.proofs.Common.{sym, ap, ap₂, subst, ◌∙◌, arith, length-take, length-drop, length-append}
 use Rattle.reach.specs.Lists.{All}
 use Rattle.rules.specs.Limits.{group_unit, entry_size}
 use Rattle.rules.specs.State.{Pending}
@@ -116,6 +117,34 @@ lows_by n l no_more i b g k small w = tt
 lows_by n l (three m v h o r t) zero b g k small w = (small, w.1)
 lows_by n l (three m v h o r t) (suc i) b g k small w = rw (second_more, third_more, three_more) (w.0, lows_by m r t i b g k small w.1)
 
+drop_by : (n : ℕ) (l : List ℕ) → Threes n l → (m : ℕ) → entries (drop (entry_size * m) l) ≡ drop m (entries l)
+unfolding entries
+drop_by n l no_more zero = refl
+drop_by n l no_more (suc m) = rw three_more
+drop_by n l (three i v h k r t) zero = refl
+drop_by n l (three i v h k r t) (suc m) = rw three_more (drop_by i r t m)
+
+append_by : (n : ℕ) (l : List ℕ) → Threes n l → (m : List ℕ) → entries (l ++ m) ≡ entries l ++ entries m
+unfolding entries
+append_by n l no_more m = refl
+append_by n l (three i v h k r t) m = ap {B = List Pending} (λ l. entry v (word h k) ∷ l) (append_by i r t m)
+
+take_lows : (n : ℕ) (l : List ℕ) → Threes n l → (m : ℕ) → EntryLows l → EntryLows (take (entry_size * m) l)
+take_lows n l no_more zero w = tt
+take_lows n l no_more (suc m) w = rw three_more tt
+take_lows n l (three i v h k r t) zero w = tt
+take_lows n l (three i v h k r t) (suc m) w = rw three_more (w.0, take_lows i r t m w.1)
+
+drop_lows : (n : ℕ) (l : List ℕ) → Threes n l → (m : ℕ) → EntryLows l → EntryLows (drop (entry_size * m) l)
+drop_lows n l no_more zero w = tt
+drop_lows n l no_more (suc m) w = rw three_more tt
+drop_lows n l (three i v h k r t) zero w = w
+drop_lows n l (three i v h k r t) (suc m) w = rw three_more (drop_lows i r t m w.1)
+
+append_lows : (n : ℕ) (l : List ℕ) → Threes n l → (m : List ℕ) → EntryLows l → EntryLows m → EntryLows (l ++ m)
+append_lows n l no_more m w u = u
+append_lows n l (three i v h k r t) m w u = (w.0, append_lows i r t m w.1 u)
+
 low_by : (n : ℕ) (l : List ℕ) → Threes n l → (i : ℕ) → EntryLows l → Byte (get_or l (entry_size * i + 2) 0)
 low_by n l no_more i w = omega arith
 low_by n l (three m v h o r t) zero w = w.0
@@ -142,3 +171,56 @@ module _ (n : ℕ) (l : List ℕ) (size : length l ≡ entry_size * n) where
 
   pub low_at : (i : ℕ) → EntryLows l → Byte (get_or l (entry_size * i + 2) 0)
   low_at i w = low_by n l (threes n l size) i w
+
+  -- a value written as its two bytes
+  pub entries_written : (i b k : ℕ) → entries (set_entry l i b (high k) (low k)) ≡ set (entries l) i (entry b k)
+  entries_written i b k = entries_set i b (high k) (low k) ∙ ap (λ k. set (entries l) i (entry b k)) (value_back k)
+
+  pub written_lows : (i b k : ℕ) → EntryLows l → EntryLows (set_entry l i b (high k) (low k))
+  written_lows i b k w = set_lows i b (high k) (low k) (omega arith) w
+
+  -- those from index i up to j copied over those from index d on
+  module _ (i j d : ℕ) (up : i ≤ j) (within : j ≤ n) (fits : d + (j - i) ≤ n) where
+    abbrev front : List ℕ
+    front = take (entry_size * d) l
+
+    abbrev moved : List ℕ
+    moved = take (entry_size * (j - i)) (drop (entry_size * i) l)
+
+    front_size : length front ≡ entry_size * d
+    front_size = omega (arith, length-take (entry_size * d) l, size)
+
+    left_size : length (drop (entry_size * i) l) ≡ entry_size * (n - i)
+    left_size = omega (arith, length-drop (entry_size * i) l, size)
+
+    moved_size : length moved ≡ entry_size * (j - i)
+    moved_size = omega (arith, length-take (entry_size * (j - i)) (drop (entry_size * i) l), left_size)
+
+    both_size : length (front ++ moved) ≡ entry_size * (d + (j - i))
+    both_size = omega (arith, length-append front moved, front_size, moved_size)
+
+    as_parts : copy_within l (entry_size * i) (entry_size * j) (entry_size * d) ≡ (front ++ moved) ++ drop (entry_size * (d + (j - i))) l
+    as_parts =
+        let number : entry_size * j - entry_size * i ≡ entry_size * (j - i) = omega arith in
+        let behind : entry_size * d + (entry_size * j - entry_size * i) ≡ entry_size * (d + (j - i)) = omega arith in
+        ap₂ (λ k m. (front ++ take k (drop (entry_size * i) l)) ++ drop m l) number behind
+
+    pub entries_copied : entries (copy_within l (entry_size * i) (entry_size * j) (entry_size * d)) ≡ copy_within (entries l) i j d
+    entries_copied =
+        let some = entries_take d in
+        let more =
+        take_by (n - i) (drop (entry_size * i) l) (threes (n - i) _ left_size) (j - i)
+        ∙ ap (take (j - i)) (drop_by n l (threes n l size) i) in
+        let rest = drop_by n l (threes n l size) (d + (j - i)) in
+        ap entries as_parts
+        ∙ append_by (d + (j - i)) (front ++ moved) (threes _ _ both_size) (drop (entry_size * (d + (j - i))) l)
+        ∙ ap₂ {C = List Pending} ◌++◌ (append_by d front (threes d front front_size) moved ∙ ap₂ {C = List Pending} ◌++◌ some more) rest
+
+    pub copied_lows : EntryLows l → EntryLows (copy_within l (entry_size * i) (entry_size * j) (entry_size * d))
+    copied_lows w =
+        let some = take_lows n l (threes n l size) d w in
+        let left = drop_lows n l (threes n l size) i w in
+        let more = take_lows (n - i) (drop (entry_size * i) l) (threes (n - i) _ left_size) (j - i) left in
+        let rest = drop_lows n l (threes n l size) (d + (j - i)) w in
+        subst EntryLows (sym as_parts)
+        (append_lows (d + (j - i)) (front ++ moved) (threes _ _ both_size) _ (append_lows d front (threes d front front_size) moved some more) rest)

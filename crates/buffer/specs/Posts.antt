@@ -1,14 +1,28 @@
 -- What the functions on a buffer ask and answer.
-use Rattle.std.specs.Prelude.{◌≡◌, false, not, ◌&&◌, List, ℕ, ◌≤◌, ◌<◌, Err}
+use Rattle.std.specs.Prelude.{◌≡◌, Bool, true, false, not, ◌&&◌, List, ℕ, ◌+◌, ◌*◌, ◌≤◌, ◌<◌, get_or, Option, MatchOption, Err}
 use Rattle.std.proofs.Common.{ap}
-use Rattle.rules.specs.Limits.{most_pending, most_variables, group_unit}
+use Rattle.rules.specs.Limits.{most_pending, most_variables, group_unit, entry_size}
 use Rattle.rules.specs.State.{Pending, Buffer}
 use Rattle.rules.specs.Step as rules
 use Rattle.rules.specs.Step.{◌then◌, May}
 use Rattle.rules.specs.declared.Reason.TheVariants.{NothingToFlush, NotTheOldest}
+use Rattle.words.specs.Words.{word}
 use Rattle.buffer.specs.Held.{number, held_pending, held_buffer, BufferOk}
 use Rattle.buffer.specs.declared.Buf.{Buf}
+use Rattle.buffer.specs.declared.Entry.{Entry}
 use Rattle.buffer.specs.declared.Taken.{Taken}
+
+-- what is read of the entry at an index
+abbrev pub read_entry : List ℕ → ℕ → Entry
+read_entry s i = record { byte = get_or s (entry_size * i) 0; value = word (get_or s (entry_size * i + 1) 0) (get_or s (entry_size * i + 2) 0) }
+
+-- the test fails at each entry below index n
+abbrev pub Fails : (Entry → Bool → Type 0) → Buf → ℕ → Type 0
+Fails post b n = (i : ℕ) → i < n → post (read_entry b.slots i) false
+
+-- the first pending store at which the test does not fail is at this index; without one it fails at each
+pub record IsPosition (post : Entry → Bool → Type 0) (b : Buf) (r : Option ℕ) : Type 0 where
+  pub is : MatchOption r (Fails post b (number b)) (λ i. (i < number b) × post (read_entry b.slots i) true × Fails post b i)
 
 -- why no store to v of these may be flushed: there is none, or none that is the oldest
 abbrev pub why_not : ℕ → List Pending → May

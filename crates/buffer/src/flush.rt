@@ -1,37 +1,31 @@
 // A flush: whether it may be taken, and the store that it takes from a buffer.
-ghost use Rattle.std.specs.Prelude.{◌≡◌, ◌-◌, ◌/◌, ◌%◌};
+ghost use Rattle.std.specs.Prelude.{◌≡◌, ◌-◌, ◌/◌, ◌%◌, ◌<◌, position, IfSome};
 ghost use Rattle.rules.specs.Limits.{group_unit};
 ghost use Rattle.rules.specs.Step as rules;
 ghost use Rattle.rules.specs.declared.Model.TheVariants.{Tso, Pso};
-ghost use Rattle.buffer.specs.Held.{held_pending, held_buffer, BufferOk};
-ghost use Rattle.buffer.specs.Places.{first, is_to, is_next_to};
+ghost use Rattle.buffer.specs.Held.{number, held_pending, held_buffer, BufferOk};
+ghost use Rattle.buffer.specs.Places.{is_to, is_next_to};
 ghost use Rattle.buffer.specs.Posts.{why_not, Holds, TakesOut, counted_buffer, Takes};
 
-use crate::{Buf, Taken};
-use rules::{ENTRY_SIZE, GROUP_UNIT, MARK_UNIT, Model, Reason};
+use crate::{Buf, Entry, Taken, UNUSED};
+use rules::{ENTRY_SIZE, GROUP_UNIT, Model, Reason};
 
 // Whether the oldest pending store is one to v.
 fn is_oldest_to(b: Buf, v: u8) -> bool
     requires { BufferOk b }
     ensures { result ≡ rules.is_oldest_to v (held_pending b) }
 {
-    (b.count % MARK_UNIT != 0) & (b.slots[0] % GROUP_UNIT == v)
+    let n = b.number();
+    n != 0 && b.entry(0).variable() == v
 }
 
-// The index of the oldest pending store to v, or how many there are.
-fn first_to(b: Buf, v: u8) -> usize
+// The index of the oldest pending store to v, if there is one.
+fn oldest_to(b: Buf, v: u8) -> Option<usize>
     requires { BufferOk b }
-    ensures { result ≡ first (is_to v) (held_pending b) }
+    ensures is { result ≡ position (is_to v) (held_pending b) }
+    ensures within { IfSome result (λ i. i < number b) }
 {
-    let n = (b.count % MARK_UNIT) as usize;
-    let mut i = 0;
-    while i < n {
-        if b.slots[ENTRY_SIZE * i] % GROUP_UNIT == v {
-            return i;
-        }
-        i += 1;
-    }
-    i
+    b.position(|store| store.variable() == v)
 }
 
 // Whether a store to v is pending.
@@ -39,25 +33,15 @@ fn is_pending_to(b: Buf, v: u8) -> bool
     requires { BufferOk b }
     ensures { result ≡ rules.is_pending_to v (held_pending b) }
 {
-    let n = (b.count % MARK_UNIT) as usize;
-    first_to(b, v) < n
+    oldest_to(b, v).is_some()
 }
 
-// The index of the oldest pending store to v in the oldest group, or how many stores there are.
-fn first_next_to(b: Buf, v: u8) -> usize
+// The index of the oldest pending store to v in the oldest group, if there is one.
+fn oldest_next_to(b: Buf, v: u8) -> Option<usize>
     requires { BufferOk b }
-    ensures { result ≡ first (is_next_to v) (held_pending b) }
+    ensures { result ≡ position (is_next_to v) (held_pending b) }
 {
-    let n = (b.count % MARK_UNIT) as usize;
-    let mut i = 0;
-    while i < n {
-        let byte = b.slots[ENTRY_SIZE * i];
-        if (byte / GROUP_UNIT == 0) & (byte % GROUP_UNIT == v) {
-            return i;
-        }
-        i += 1;
-    }
-    i
+    b.position(|store| store.group() == 0 && store.variable() == v)
 }
 
 // Whether a store to v is pending in the oldest group.
@@ -65,8 +49,7 @@ fn is_in_oldest_group(b: Buf, v: u8) -> bool
     requires { BufferOk b }
     ensures { result ≡ rules.is_in_oldest_group v (held_pending b) }
 {
-    let n = (b.count % MARK_UNIT) as usize;
-    first_next_to(b, v) < n
+    oldest_next_to(b, v).is_some()
 }
 
 // Why a store to v may not be flushed: where there is one, it is not the oldest.
@@ -114,39 +97,21 @@ pub fn may_flush(m: Model, b: Buf, v: u8) -> Result<(), Reason>
     }
 }
 
-// The oldest store to v, if there is one, goes out: an unused entry is carried down to it from behind the last.
+// The oldest store to v, if there is one, goes out: those behind it move down by one, and leave an unused entry.
 fn take_out(b: Buf, v: u8) -> Taken
     requires { BufferOk b }
     ensures { TakesOut result v (held_buffer b) }
 {
-    let at = first_to(b, v);
-    let n = (b.count % MARK_UNIT) as usize;
-    if n <= at {
+    let Some(at) = oldest_to(b, v) else {
         return Taken { value: 0, rest: b };
-    }
-    let mut s = b.slots;
-    let mut variable = 0;
-    let mut high = 0;
-    let mut low = 0;
-    let mut i = n;
-    while at < i {
-        i -= 1;
-        let at_variable = ENTRY_SIZE * i;
-        let at_high = at_variable + 1;
-        let at_low = at_variable + 2;
-        let next_variable = s[at_variable];
-        let next_high = s[at_high];
-        let next_low = s[at_low];
-        s[at_variable] = variable;
-        s[at_high] = high;
-        s[at_low] = low;
-        variable = next_variable;
-        high = next_high;
-        low = next_low;
-    }
+    };
+    let n = b.number();
+    let value = b.entry(at).value;
     let count = b.count - 1;
-    let rest = Buf { count, slots: s };
-    let value = words::word(high, low);
+    let mut rest = Buf { count, ..b };
+    rest.slots
+        .copy_within(ENTRY_SIZE * (at + 1)..ENTRY_SIZE * n, ENTRY_SIZE * at);
+    rest.set_entry(n - 1, UNUSED);
     Taken { value, rest }
 }
 
@@ -154,11 +119,7 @@ fn take_out(b: Buf, v: u8) -> Taken
 fn lower(byte: u8, groups: u8) -> u8
     ensures { (result / group_unit ≡ byte / group_unit - groups) × (result % group_unit ≡ byte % group_unit) }
 {
-    let group = byte / GROUP_UNIT;
-    if group < groups {
-        return byte % GROUP_UNIT;
-    }
-    byte - GROUP_UNIT * groups
+    GROUP_UNIT * (byte / GROUP_UNIT).saturating_sub(groups) + byte % GROUP_UNIT
 }
 
 // Groups are counted from the oldest that is left, and a mark stands only behind a store.
@@ -166,30 +127,21 @@ fn counted(b: Buf) -> Buf
     requires { BufferOk b }
     ensures { Holds result (counted_buffer (held_buffer b)) }
 {
-    let n = (b.count % MARK_UNIT) as usize;
+    let n = b.number();
     if n == 0 {
         return crate::empty();
     }
-    let oldest = b.slots[0] / GROUP_UNIT;
+    let oldest = b.entry(0).group();
     if oldest == 0 {
         return b;
     }
-    let mut s = b.slots;
-    let mut i = 0;
-    while i < n {
-        let at_variable = ENTRY_SIZE * i;
-        let at_high = at_variable + 1;
-        let at_low = at_variable + 2;
-        let variable = lower(b.slots[at_variable], oldest);
-        let high = b.slots[at_high];
-        let low = b.slots[at_low];
-        s[at_variable] = variable;
-        s[at_high] = high;
-        s[at_low] = low;
-        i += 1;
+    let mut counted = b;
+    for i in 0..n {
+        let store = b.entry(i);
+        let byte = lower(store.byte, oldest);
+        counted.set_entry(i, Entry { byte, ..store });
     }
-    let count = b.count;
-    Buf { count, slots: s }
+    counted
 }
 
 // A flush to v: the oldest store to v goes out, and the groups that are left are counted anew.
@@ -198,8 +150,6 @@ pub fn take(b: Buf, v: u8) -> Taken
     ensures { Takes result v (held_buffer b) }
 {
     let taken = take_out(b, v);
-    let left = taken.rest;
-    let value = taken.value;
-    let rest = counted(left);
-    Taken { value, rest }
+    let rest = counted(taken.rest);
+    Taken { rest, ..taken }
 }

@@ -1,11 +1,14 @@
 // A thread's store buffer: pending stores that go in by value and come back.
 #![tactic(auto)]
 
-ghost use Rattle.std.specs.Prelude.{◌≡◌, length};
+ghost use Rattle.std.specs.Prelude.{◌≡◌, ◌/◌, ◌%◌, ◌<◌, length};
+ghost use Rattle.rules.specs.Limits.{most_pending, group_unit};
+ghost use Rattle.rules.specs.Slot.{high, low};
 ghost use Rattle.rules.specs.State.{empty_buffer};
 ghost use Rattle.rules.specs.Step as rules;
-ghost use Rattle.buffer.specs.Held.{held_pending, held_buffer, BufferOk};
-ghost use Rattle.buffer.specs.Posts.{Holds};
+ghost use Rattle.buffer.specs.Held.{number, held_pending, held_buffer, BufferOk};
+ghost use Rattle.buffer.specs.Places.{set_entry};
+ghost use Rattle.buffer.specs.Posts.{read_entry, IsPosition, Holds};
 
 use rules::{ENTRIES_SIZE, ENTRY_SIZE, GROUP_UNIT, MARK_UNIT};
 
@@ -25,6 +28,74 @@ pub struct Buf {
 pub struct Taken {
     pub value: u16,
     pub rest: Buf,
+}
+
+// What the three bytes of an entry say: 16 times its group plus its variable, and its value.
+#[derive(Clone, Copy)]
+struct Entry {
+    byte: u8,
+    value: u16,
+}
+
+const UNUSED: Entry = Entry { byte: 0, value: 0 };
+
+impl Entry {
+    fn group(self) -> u8
+        ensures is { result ≡ self.byte / group_unit }
+        ensures fits { result < group_unit }
+    {
+        self.byte / GROUP_UNIT
+    }
+
+    fn variable(self) -> u8
+        ensures { result ≡ self.byte % group_unit }
+    {
+        self.byte % GROUP_UNIT
+    }
+}
+
+impl Buf {
+    // How many stores are pending: an index behind the newest.
+    fn number(self) -> usize
+        ensures { result ≡ number self }
+    {
+        usize::from(self.count % MARK_UNIT)
+    }
+
+    fn entry(self, i: usize) -> Entry
+        requires { i < most_pending }
+        ensures { result ≡ read_entry self.slots i }
+    {
+        let at = ENTRY_SIZE * i;
+        Entry {
+            byte: self.slots[at],
+            value: words::word(self.slots[at + 1], self.slots[at + 2]),
+        }
+    }
+
+    fn set_entry(&mut self, i: usize, e: Entry)
+        requires { i < most_pending }
+        ensures { self.new ≡ record { count = self.old.count; slots = set_entry self.old.slots i e.byte (high e.value) (low e.value) } }
+    {
+        let at = ENTRY_SIZE * i;
+        self.slots[at] = e.byte;
+        self.slots[at + 1] = words::high(e.value);
+        self.slots[at + 2] = words::low(e.value);
+    }
+
+    // The index of the oldest pending store that passes the test, if there is one.
+    fn position<F: Fn(Entry) -> bool>(self, test: F) -> Option<usize>
+        requires ok { BufferOk self }
+        requires callable { F.IsAlwaysCallable test }
+        ensures { IsPosition (F.post test) self result }
+    {
+        for i in 0..self.number() {
+            if test(self.entry(i)) {
+                return Some(i);
+            }
+        }
+        None
+    }
 }
 
 pub fn empty() -> Buf
@@ -61,8 +132,7 @@ pub fn marked(b: Buf) -> Buf
         return empty();
     }
     let count = MARK_UNIT + n;
-    let slots = b.slots;
-    Buf { count, slots }
+    Buf { count, ..b }
 }
 
 // What a load of v sees: the newest pending store to v, in whichever group, else memory.
@@ -70,15 +140,12 @@ pub fn newest(b: Buf, v: u8, memory: u16) -> u16
     requires { BufferOk b }
     ensures { result ≡ rules.newest v memory (held_pending b) }
 {
-    let n = (b.count % MARK_UNIT) as usize;
-    let mut seen = memory;
-    let mut i = 0;
-    while i < n {
-        let at = ENTRY_SIZE * i;
-        if b.slots[at] % GROUP_UNIT == v {
-            seen = words::word(b.slots[at + 1], b.slots[at + 2]);
+    let n = b.number();
+    for i in (0..n).rev() {
+        let store = b.entry(i);
+        if store.variable() == v {
+            return store.value;
         }
-        i += 1;
     }
-    seen
+    memory
 }

@@ -7,6 +7,7 @@ ghost use Rattle.rules.specs.Kinds as rules;
 use rules::{Control, Instr, Role, Wait};
 
 // Where it goes on.
+#[tactic(auto, unfolding(rules::specs::Kinds::control_of))]
 pub fn control_of(i: Instr) -> Control
     ensures { result ≡ rules.control_of i }
 {
@@ -25,6 +26,7 @@ pub fn control_of(i: Instr) -> Control
 }
 
 // What it waits for.
+#[tactic(auto, unfolding(rules::specs::Kinds::wait_of))]
 pub fn wait_of(i: Instr) -> Wait
     ensures { result ≡ rules.wait_of i }
 {
@@ -43,6 +45,7 @@ pub fn wait_of(i: Instr) -> Wait
 }
 
 // What it is to the fence check.
+#[tactic(auto, unfolding(rules::specs::Kinds::role_of))]
 pub fn role_of(i: Instr) -> Role
     ensures { result ≡ rules.role_of i }
 {

@@ -17,7 +17,7 @@ use state::State;
 fn sum(w: Width, a: u16, k: u16) -> u16
     ensures { result ≡ (a + k) % values w }
 {
-    let wrapped = std::num::wrapping_add_u16(a, k);
+    let wrapped = a.wrapping_add(k);
     match w {
         Width::One => wrapped % (BYTE_VALUES as u16),
         Width::Two => wrapped,
@@ -25,9 +25,10 @@ fn sum(w: Width, a: u16, k: u16) -> u16
 }
 
 // Register r becomes r + k.
+#[tactic(auto, unfolding(rules::specs::Step::changed))]
 fn add(x: State, t: u8, w: Width, r: u8, k: u16) -> State
     requires at { At x t }
-    requires r_lt_registers_each { r < registers_each }
+    requires is_register { r < registers_each }
     ensures { (m : Model) → Holds result (rules.changed m t (Add w r k) (held x)) }
 {
     let total = sum(w, state::register(x, t, r), k);
@@ -35,10 +36,11 @@ fn add(x: State, t: u8, w: Width, r: u8, k: u16) -> State
 }
 
 // Register r takes the newest pending store of the thread's own to v, else memory.
+#[tactic(auto, unfolding(rules::specs::Step::changed))]
 fn load(x: State, t: u8, r: u8, v: u8) -> State
     requires at { At x t }
-    requires r_lt_registers_each { r < registers_each }
-    requires v_lt_most_variables { v < most_variables }
+    requires is_register { r < registers_each }
+    requires is_variable { v < most_variables }
     ensures { (m : Model) → Holds result (rules.changed m t (Load r v) (held x)) }
 {
     let k = buffer::newest(state::buffer(x, t), v, state::variable(x, v));
@@ -46,6 +48,7 @@ fn load(x: State, t: u8, r: u8, v: u8) -> State
 }
 
 // What a store carries.
+#[tactic(auto, unfolding(rules::specs::Step::carried))]
 fn carried(x: State, t: u8, a: Source) -> u16
     requires at { At x t }
     requires source_ok { SourceOk a }
@@ -58,10 +61,11 @@ fn carried(x: State, t: u8, a: Source) -> u16
 }
 
 // A store of k to v, which has room: under SC straight to memory, under TSO behind the last, under PSO by its group and variable.
+#[tactic(auto, unfolding(rules::specs::Step::stored))]
 fn stored(m: Model, x: State, t: u8, v: u8, k: u16) -> State
     requires at { At x t }
-    requires v_lt_most_variables { v < most_variables }
-    requires x_value { rules.has_room m most_pending (pending t (held x)) ≡ true }
+    requires is_variable { v < most_variables }
+    requires has_room { rules.has_room m most_pending (pending t (held x)) ≡ true }
     requires group_fits { GroupFits x t }
     ensures { Holds result (rules.stored m t v k (held x)) }
 {
@@ -79,10 +83,11 @@ fn stored(m: Model, x: State, t: u8, v: u8, k: u16) -> State
 }
 
 // Register r and memory's v change places.
+#[tactic(auto, unfolding(rules::specs::Step::changed))]
 fn xchg(x: State, t: u8, r: u8, v: u8) -> State
     requires at { At x t }
-    requires r_lt_registers_each { r < registers_each }
-    requires v_lt_most_variables { v < most_variables }
+    requires is_register { r < registers_each }
+    requires is_variable { v < most_variables }
     ensures { (m : Model) → Holds result (rules.changed m t (Xchg r v) (held x)) }
 {
     let old = state::variable(x, v);
@@ -91,29 +96,31 @@ fn xchg(x: State, t: u8, r: u8, v: u8) -> State
 }
 
 // Memory's v becomes k if it equals register r, and r takes the old value either way.
+#[tactic(auto, unfolding(rules::specs::Step::changed))]
 fn cmpx(x: State, t: u8, r: u8, v: u8, k: u16) -> State
     requires at { At x t }
-    requires r_lt_registers_each { r < registers_each }
-    requires v_lt_most_variables { v < most_variables }
+    requires is_register { r < registers_each }
+    requires is_variable { v < most_variables }
     ensures { (m : Model) → Holds result (rules.changed m t (Cmpx r v k) (held x)) }
 {
     let old = state::variable(x, v);
     let own = state::register(x, t, r);
-    if old == own {
-        let written = state::with_variable(x, v, k);
-        return state::with_register(written, t, r, old);
-    }
-    state::with_register(x, t, r, old)
+    let written = if old == own {
+        state::with_variable(x, v, k)
+    } else {
+        x
+    };
+    state::with_register(written, t, r, old)
 }
 
 // A WFENCE: under PSO it stands after the newest store, under SC and TSO it does nothing.
+#[tactic(auto, unfolding(rules::specs::Step::grouped))]
 fn wfence(m: Model, x: State, t: u8) -> State
     requires { At x t }
     ensures { Holds result (rules.grouped m t (held x)) }
 {
     match m {
-        Model::Sc => x,
-        Model::Tso => x,
+        Model::Sc | Model::Tso => x,
         Model::Pso => {
             let marked = buffer::marked(state::buffer(x, t));
             state::with_buffer(x, t, marked)
@@ -122,10 +129,11 @@ fn wfence(m: Model, x: State, t: u8) -> State
 }
 
 // What instruction i of thread t changes.
+#[tactic(auto, unfolding(rules::specs::Step::changed))]
 pub fn changed(i: Instr, m: Model, x: State, t: u8) -> State
     requires at { At x t }
     requires instr_ok { InstrOk i }
-    requires x_value { rules.free m most_pending (wait_of i) (pending t (held x)) ≡ Ok tt }
+    requires may_be_taken { rules.free m most_pending (wait_of i) (pending t (held x)) ≡ Ok tt }
     requires group_fits { GroupFits x t }
     ensures { Holds result (rules.changed m t i (held x)) }
 {
@@ -134,30 +142,23 @@ pub fn changed(i: Instr, m: Model, x: State, t: u8) -> State
         Instr::Add(w, r, k) => add(x, t, w, r, k),
         Instr::Load(r, v) => load(x, t, r, v),
         Instr::Store(a, v) => stored(m, x, t, v, carried(x, t, a)),
-        Instr::Fence => x,
         Instr::Xchg(r, v) => xchg(x, t, r, v),
-        Instr::Jeq(_, _, _) => x,
-        Instr::Jmp(_) => x,
         Instr::Cmpx(r, v, k) => cmpx(x, t, r, v, k),
         Instr::Wfence => wfence(m, x, t),
+        Instr::Fence | Instr::Jeq(_, _, _) | Instr::Jmp(_) => x,
     }
 }
 
 // The place to which thread t goes on.
+#[tactic(auto, unfolding(rules::specs::Step::place_after))]
 pub fn place_after(c: Control, x: State, t: u8) -> u8
     requires runs { Runs x t }
     requires control_ok { ControlOk c }
     ensures { result ≡ rules.place_after t c (held x) }
 {
     match c {
-        Control::On => state::place(x, t) + 1,
         Control::To(p) => p,
-        Control::ToIf(r, k, p) => {
-            if state::register(x, t, r) == k {
-                p
-            } else {
-                state::place(x, t) + 1
-            }
-        }
+        Control::ToIf(r, k, p) if state::register(x, t, r) == k => p,
+        Control::On | Control::ToIf(_, _, _) => state::place(x, t) + 1,
     }
 }

@@ -20,6 +20,7 @@ mod effects;
 mod waits;
 
 // Whether instruction i of a thread whose buffer is b may be taken, and why not: no state is made.
+#[tactic(auto, unfolding(rules::specs::Step::may_execute))]
 pub fn may_execute(i: Instr, m: Model, capacity: u8, b: Buf) -> Result<(), Reason>
     requires { BufferOk b }
     ensures { result ≡ rules.may_execute m capacity (some i) (held_pending b) }
@@ -28,10 +29,11 @@ pub fn may_execute(i: Instr, m: Model, capacity: u8, b: Buf) -> Result<(), Reaso
 }
 
 // Instruction i of thread t, which may be taken: what it changes, and the place where the thread goes on.
+#[tactic(auto, unfolding(rules::specs::Step::executed))]
 pub fn execute(i: Instr, m: Model, x: State, t: u8) -> State
     requires runs { Runs x t }
     requires instr_ok { InstrOk i }
-    requires x_value { rules.free m most_pending (wait_of i) (pending t (held x)) ≡ Ok tt }
+    requires may_be_taken { rules.free m most_pending (wait_of i) (pending t (held x)) ≡ Ok tt }
     requires group_fits { GroupFits x t }
     ensures { Holds result (rules.executed m t i (held x)) }
 {
@@ -40,13 +42,13 @@ pub fn execute(i: Instr, m: Model, x: State, t: u8) -> State
 }
 
 // The oldest pending store of thread t to v goes to memory: whether it may is asked before.
+#[tactic(auto, unfolding(rules::specs::Step::flushed))]
 pub fn flush(x: State, t: u8, v: u8) -> State
     requires at { At x t }
-    requires v_lt_most_variables { v < most_variables }
+    requires is_variable { v < most_variables }
     ensures { Holds result (rules.flushed t v (held x)) }
 {
     let taken = buffer::flush::take(state::buffer(x, t), v);
     let y = state::with_variable(x, v, taken.value);
-    let rest = taken.rest;
-    state::with_buffer(y, t, rest)
+    state::with_buffer(y, t, taken.rest)
 }

@@ -7,18 +7,19 @@ use buffer::Buf;
 use rules::{Model, Reason, Wait};
 
 // Whether there is room for one store more: under SC it goes straight to memory.
+#[tactic(auto, unfolding(rules::specs::Step::has_room))]
 fn has_room(m: Model, capacity: u8, b: Buf) -> bool
     requires { BufferOk b }
     ensures { result ≡ rules.has_room m capacity (held_pending b) }
 {
     match m {
         Model::Sc => true,
-        Model::Tso => buffer::pending(b) < capacity,
-        Model::Pso => buffer::pending(b) < capacity,
+        Model::Tso | Model::Pso => buffer::pending(b) < capacity,
     }
 }
 
 // Whether what is waited for is there, and what is missing if not.
+#[tactic(auto, unfolding(rules::specs::Step::free))]
 pub fn free(w: Wait, m: Model, capacity: u8, b: Buf) -> Result<(), Reason>
     requires { BufferOk b }
     ensures { result ≡ rules.free m capacity w (held_pending b) }

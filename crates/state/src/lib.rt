@@ -1,9 +1,11 @@
 // A machine state that goes in by value and comes back: each part is read, and each is changed in a state that comes back.
 #![tactic(auto)]
 
-ghost use Rattle.std.specs.Prelude.{◌≡◌, ◌+◌, ◌*◌, ◌<◌};
-ghost use Rattle.rules.specs.Limits.{most_threads, most_variables, registers_each, word_size, registers_size, memory_size};
+ghost use Rattle.std.specs.Prelude.{◌≡◌, ◌+◌, ◌*◌, ◌<◌, length};
+ghost use Rattle.rules.specs.Limits.{most_threads, most_variables, registers_each, all_registers, word_size};
 ghost use Rattle.rules.specs.State.{place, register, variable, buffer, with_place, with_register, with_variable, with_buffer};
+ghost use Rattle.rules.specs.Slot.{high, low};
+ghost use Rattle.words.specs.Words.{word_at, set_word};
 ghost use Rattle.buffer.specs.Held.{held_buffer, BufferOk};
 ghost use Rattle.buffer.specs.Posts.{Holds as HoldsBuffer};
 ghost use Rattle.state.specs.Held.{held, StateOk};
@@ -22,48 +24,56 @@ pub struct State {
 }
 
 // The place that thread t is at.
+#[tactic(auto, unfolding(rules::specs::State::place, crate::specs::Held::held))]
 pub fn place(x: State, t: u8) -> u8
     requires { At x t }
     ensures { result ≡ place t (held x) }
 {
-    x.places[t as usize]
+    x.places[usize::from(t)]
 }
 
-// Where the bytes of register r of thread t begin: thread by thread.
-fn register_at(t: u8, r: u8) -> usize
+// Where register r of thread t stands: thread by thread.
+fn register_index(t: u8, r: u8) -> usize
     requires { (t < most_threads) × (r < registers_each) }
-    ensures { (result ≡ word_size * (registers_each * t + r)) × (result + 1 < registers_size) }
+    ensures { (result ≡ registers_each * t + r) × (result < all_registers) }
 {
-    let i = REGISTERS_EACH * t + r;
-    WORD_SIZE * (i as usize)
+    usize::from(REGISTERS_EACH * t + r)
 }
 
-// Where the bytes of variable v begin.
-fn variable_at(v: u8) -> usize
-    requires { v < most_variables }
-    ensures { (result ≡ word_size * v) × (result + 1 < memory_size) }
+// The value at an index of bytes that are values of two each.
+fn word_at(bytes: &[u8], i: usize) -> u16
+    requires { word_size * i + 1 < length bytes.now }
+    ensures { result ≡ word_at bytes.now i }
 {
-    WORD_SIZE * (v as usize)
+    let at = WORD_SIZE * i;
+    words::word(bytes[at], bytes[at + 1])
+}
+
+fn set_word(bytes: &mut [u8], i: usize, k: u16)
+    requires { word_size * i + 1 < length bytes.old }
+    ensures { bytes.new ≡ set_word bytes.old i (high k) (low k) }
+{
+    let at = WORD_SIZE * i;
+    bytes[at] = words::high(k);
+    bytes[at + 1] = words::low(k);
 }
 
 // Register r of thread t.
 pub fn register(x: State, t: u8, r: u8) -> u16
     requires at { At x t }
-    requires r_lt_registers_each { r < registers_each }
+    requires is_register { r < registers_each }
     ensures { result ≡ register t r (held x) }
 {
-    let at = register_at(t, r);
-    words::word(x.regs[at], x.regs[at + 1])
+    word_at(&x.regs, register_index(t, r))
 }
 
 // What memory has at variable v.
 pub fn variable(x: State, v: u8) -> u16
     requires state_ok { StateOk x }
-    requires v_lt_most_variables { v < most_variables }
+    requires is_variable { v < most_variables }
     ensures { result ≡ variable v (held x) }
 {
-    let at = variable_at(v);
-    words::word(x.mem[at], x.mem[at + 1])
+    word_at(&x.mem, usize::from(v))
 }
 
 // The buffer of thread t.
@@ -71,7 +81,7 @@ pub fn buffer(x: State, t: u8) -> Buf
     requires { At x t }
     ensures { HoldsBuffer result (buffer t (held x)) }
 {
-    x.bufs[t as usize]
+    x.bufs[usize::from(t)]
 }
 
 pub fn with_place(x: State, t: u8, p: u8) -> State
@@ -79,31 +89,27 @@ pub fn with_place(x: State, t: u8, p: u8) -> State
     ensures { Holds result (with_place t p (held x)) }
 {
     let mut y = x;
-    y.places[t as usize] = p;
+    y.places[usize::from(t)] = p;
     y
 }
 
 pub fn with_register(x: State, t: u8, r: u8, k: u16) -> State
     requires at { At x t }
-    requires r_lt_registers_each { r < registers_each }
+    requires is_register { r < registers_each }
     ensures { Holds result (with_register t r k (held x)) }
 {
-    let at = register_at(t, r);
     let mut y = x;
-    y.regs[at] = words::high(k);
-    y.regs[at + 1] = words::low(k);
+    set_word(&mut y.regs, register_index(t, r), k);
     y
 }
 
 pub fn with_variable(x: State, v: u8, k: u16) -> State
     requires state_ok { StateOk x }
-    requires v_lt_most_variables { v < most_variables }
+    requires is_variable { v < most_variables }
     ensures { Holds result (with_variable v k (held x)) }
 {
-    let at = variable_at(v);
     let mut y = x;
-    y.mem[at] = words::high(k);
-    y.mem[at + 1] = words::low(k);
+    set_word(&mut y.mem, usize::from(v), k);
     y
 }
 
@@ -113,6 +119,6 @@ pub fn with_buffer(x: State, t: u8, b: Buf) -> State
     ensures { Holds result (with_buffer t (held_buffer b) (held x)) }
 {
     let mut y = x;
-    y.bufs[t as usize] = b;
+    y.bufs[usize::from(t)] = b;
     y
 }

@@ -12,11 +12,11 @@ place-requires c =
 pub register-requires : goal.register-requires
 register-requires c =
     let there = subst ClauseOk c.in-RegisterIs.is c.requires.clause_ok in
-    record { at = record { ok = c.requires.state_ok; thread = omega (arith, there) }; r_lt_registers_each = omega (arith, there) }
+    record { at = record { ok = c.requires.state_ok; thread = omega (arith, there) }; is_register = omega (arith, there) }
 
 pub variable-requires : goal.variable-requires
 variable-requires c =
-    record { state_ok = c.requires.state_ok; v_lt_most_variables = subst ClauseOk c.in-MemoryIs.is c.requires.clause_ok }
+    record { state_ok = c.requires.state_ok; is_variable = subst ClauseOk c.in-MemoryIs.is c.requires.clause_ok }
 
 pub returns-in-PlaceIs : goal.returns-in-PlaceIs
 unfolding clause_holds

@@ -12,8 +12,8 @@ use Rattle.engine.proofs.execute.Goals as goal
 pub execute-requires-clause-instr_ok : goal.execute-requires-clause-instr_ok
 execute-requires-clause-instr_ok c = operands_by_read (accepted_job c.args.job.now) _ _ c.instruction_at.ensures c.in-Some.is
 
-pub execute-requires-clause-x_value : goal.execute-requires-clause-x_value
-execute-requires-clause-x_value c =
+pub execute-requires-clause-may_be_taken : goal.execute-requires-clause-may_be_taken
+execute-requires-clause-may_be_taken c =
     free_by_read (accepted_job c.args.job.now) _ _ c.instruction_at.ensures _ c.requires.is_thread c.place.ensures c.in-Some.is c.requires.may_be_taken
 
 pub execute-requires-clause-group_fits : goal.execute-requires-clause-group_fits

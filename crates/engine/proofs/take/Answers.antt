@@ -14,7 +14,7 @@ use Rattle.engine.proofs.take.Goals as goal
 pub flush-requires : goal.flush-requires
 flush-requires c =
     let below : c.args.s < step_bound = may_below (job_of _) (held c.args.x) _ c.requires.may_be_taken in
-    record { at = record { ok = c.requires.at.ok; thread = omega arith }; v_lt_most_variables = omega arith }
+    record { at = record { ok = c.requires.at.ok; thread = omega arith }; is_variable = omega arith }
 
 pub returns : goal.returns
 unfolding flush_thread flush_variable

@@ -3,4 +3,4 @@ use Rattle.state.proofs.PartLaws.{buffer_read}
 use Rattle.state.proofs.buffer.Goals as goal
 
 pub returns : goal.returns
-returns c = buffer_read _ c.requires.ok _ c.requires.thread
+returns c = rw c.from.ensures (buffer_read _ c.requires.ok c.args.t c.requires.thread)

@@ -3,5 +3,4 @@ use Rattle.state.proofs.PartLaws.{register_read}
 use Rattle.state.proofs.register.Goals as goal
 
 pub returns : goal.returns
-returns c =
-    rw (register_read _ c.requires.at.ok _ _, ← c.register_at-at.ensures.0) c.word.ensures
+returns c = rw (register_read _ c.requires.at.ok _ _, ← c.register_index.ensures.0) c.word_at.ensures

@@ -3,5 +3,4 @@ use Rattle.state.proofs.PartLaws.{variable_read}
 use Rattle.state.proofs.variable.Goals as goal
 
 pub returns : goal.returns
-returns c =
-    rw (variable_read _ c.requires.state_ok _, ← c.variable_at-at.ensures.0) c.word.ensures
+returns c = rw (variable_read _ c.requires.state_ok _, ← c.from.ensures) c.word_at.ensures

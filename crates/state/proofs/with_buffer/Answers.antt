@@ -3,4 +3,4 @@ use Rattle.state.proofs.PartLaws.{buffer_written}
 use Rattle.state.proofs.with_buffer.Goals as goal
 
 pub returns : goal.returns
-returns c = buffer_written _ c.requires.at.ok _ _ c.requires.buffer_ok
+returns c = rw c.from.ensures (buffer_written _ c.requires.at.ok c.args.t c.args.b c.requires.buffer_ok)

@@ -3,4 +3,4 @@ use Rattle.state.proofs.PartLaws.{place_written}
 use Rattle.state.proofs.with_place.Goals as goal
 
 pub returns : goal.returns
-returns c = place_written _ c.requires.ok _ _
+returns c = rw c.from.ensures (place_written _ c.requires.ok c.args.t c.args.p)

@@ -1,9 +1,12 @@
--- `buffer::flush::is_in_oldest_group` meets its contract: one is pending where the search ends before the last.
+-- `buffer::flush::is_in_oldest_group` meets its contract: one is pending where the search finds one.
+use Rattle.std.proofs.Common.{sym, ◌∙◌}
 use Rattle.buffer.specs.Held.{held_pending}
-use Rattle.buffer.specs.HeldLaws.{held_number}
-use Rattle.buffer.proofs.PlaceLaws.{next_by_index}
+use Rattle.buffer.specs.Places.{is_next_to}
+use Rattle.buffer.proofs.PlaceLaws.{next_within}
+use Rattle.buffer.proofs.ReadLaws.{found_within}
 use Rattle.buffer.proofs.flush.is_in_oldest_group.Goals as goal
 
 pub returns : goal.returns
 returns c =
-    next_by_index _ (held_pending c.args.b) _ _ c.first_next_to.ensures (held_number c.args.b c.requires)
+    let l = held_pending c.args.b in
+    c.is_some.ensures ∙ found_within (is_next_to c.args.v) l _ c.oldest_next_to.ensures ∙ sym (next_within c.args.v l)

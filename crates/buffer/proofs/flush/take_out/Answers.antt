@@ -1,28 +1,25 @@
-use mathlib.Core.Path.{refl}
-use native.Mathlib.Omega.{arith}
-use Rattle.buffer.proofs.CarryLaws.{carried_down, nothing_taken, take_out_takes}
+-- `buffer::flush::take_out` meets its contract: the entries behind the oldest store to v move down.
+use Rattle.std.proofs.Common.{ap, sym, ◌∙◌, ◌+◌, ◌*◌, arith, Some, None}
+use Rattle.std.specs.List.{copy_within}
+use Rattle.rules.specs.Limits.{entry_size}
+use Rattle.buffer.specs.Held.{held_pending}
+use Rattle.buffer.specs.Places.{is_to}
+use Rattle.buffer.proofs.MoveLaws.{nothing_taken, take_out_takes}
+use Rattle.buffer.proofs.ReadLaws.{at_first}
 use Rattle.buffer.proofs.flush.take_out.Goals as goal
 
-pub first_to-at-requires : goal.first_to-at-requires
-first_to-at-requires c = c.requires
-
-pub returns-then-n-at : goal.returns-then-n-at
-returns-then-n-at c =
-    nothing_taken c.args.b _ c.requires _ c.first_to-at.ensures c.if-n-at.true
-
-pub loop-i-init : goal.loop-i-init
-loop-i-init c =
-    let ok = c.requires in
-    (record { size = ok.size; lows = ok.lows; small = omega arith; is = refl }, omega arith, omega arith)
-
-pub loop-i-preserved : goal.loop-i-preserved
-loop-i-preserved c =
-    let l = c.loop-i in
-    (carried_down l.s l.variable l.high l.low l.i _ l.invariant.0 (omega arith) (omega arith), omega arith, omega arith)
+pub returns-in_default : goal.returns-in_default
+returns-in_default c =
+    let a = c.args in
+    let none = at_first (is_to a.v) (held_pending a.b) None (sym c.in_default.is ∙ c.oldest_to.ensures.is) in
+    nothing_taken a.b a.v c.requires (omega (arith, none))
 
 pub returns : goal.returns
 returns c =
-    let l = c.loop-i in
-    let at = c.first_to-at in
-    rw c.word-value.ensures
-    (take_out_takes c.args.b _ c.requires l.i (omega (arith, at.ensures)) (omega arith) l.s l.variable l.high l.low l.invariant.0)
+    let a = c.args in
+    let at = c.in-Some.at in
+    let oldest = at_first (is_to a.v) (held_pending a.b) (Some at) (sym c.in-Some.is ∙ c.oldest_to.ensures.is) in
+    let moved = c.copy_within in
+    let copied = ap (λ n. copy_within a.b.slots (entry_size * (at + 1)) (entry_size * n) (entry_size * at)) c.number-n.ensures in
+    rw (c.set_entry.ensures, c.number-n.ensures, c.entry-value.ensures)
+    (take_out_takes a.b a.v c.requires at oldest.0 oldest.1 moved.new.self (moved.ensures.after ∙ copied) (moved.ensures.len ∙ c.requires.size))

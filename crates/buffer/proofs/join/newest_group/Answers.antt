@@ -1,9 +1,5 @@
 -- `buffer::join::newest_group` meets its contract: the last entry has the newest group.
-use mathlib.Core.Path.{◌≡◌, refl, sym, ap, ◌∙◌}
-use mathlib.Core.List.{List, [], ◌∷◌}
-use Prim.Native.Nat.{◌-◌, ◌≤◌}
-use native.Mathlib.Omega.{arith}
-use lib.ListN.{length, get_or}
+use Rattle.std.proofs.Common.{◌≡◌, refl, sym, ap, ◌∙◌, List, [], ◌∷◌, ◌-◌, ◌≤◌, length, get_or, arith}
 use Rattle.rules.specs.State.{Pending}
 use Rattle.rules.specs.Step.{newest_group}
 use Rattle.buffer.specs.Held.{number, held_pending}
@@ -19,16 +15,17 @@ none-newest (p ∷ l) h = absurd (omega arith)
 
 pub returns-then-n-eq0 : goal.returns-then-n-eq0
 returns-then-n-eq0 c =
-    (none-newest (held_pending c.args.b) (held_number c.args.b c.requires ∙ c.if-n-eq0.true), omega arith)
+    let none = held_number c.args.b c.requires in
+    (none-newest (held_pending c.args.b) (omega arith), omega arith)
 
 pub returns : goal.returns
 returns c =
     let b = c.args.b in
     let n = held_number b c.requires in
-    let some : 1 ≤ length (held_pending b) = omega (arith, n, c.if-n-eq0.false) in (
-      c.group_of.ensures.0
-          ∙ sym (newest_last 0 (held_pending b) some
+    let some : 1 ≤ length (held_pending b) = omega (arith, n, c.if-n-eq0.false, c.number-n.ensures) in (
+      rw (c.group.ensures.is, c.entry.ensures, c.number-n.ensures)
+          (sym (newest_last 0 (held_pending b) some
           ∙ ap (λ k. (get_or (held_pending b) (k - 1) no_entry).group) n
-          ∙ ap (λ (p : Pending). p.group) (held_at b c.requires (number b - 1) (omega (arith, n, some)))),
-      c.group_of.ensures.1,
+          ∙ ap (λ (p : Pending). p.group) (held_at b c.requires (number b - 1) (omega (arith, n, some))))),
+      c.group.ensures.fits,
     )

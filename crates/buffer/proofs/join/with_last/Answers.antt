@@ -1,11 +1,11 @@
 -- `buffer::join::with_last` meets its contract: behind the last is at the count.
-use mathlib.Core.Path.{◌≡◌, ap, subst, ◌∙◌}
+use mathlib.Core.Path.{◌≡◌, sym, ap, subst, ◌∙◌}
 use mathlib.Core.List.{[], ◌∷◌, ◌++◌}
 use Prim.Native.Nat.{ℕ, ◌/◌, ◌%◌, ◌<◌}
 use native.Mathlib.Omega.{arith}
 use Rattle.rules.specs.Limits.{group_unit}
 use Rattle.rules.specs.State.{Pending}
-use Rattle.buffer.specs.Held.{entry, number, held_pending}
+use Rattle.buffer.specs.Held.{entry, held_pending}
 use Rattle.buffer.specs.HeldLaws.{held_number}
 use Rattle.buffer.specs.Posts.{Joined}
 use Rattle.buffer.proofs.PlaceLaws.{last_place}
@@ -22,6 +22,6 @@ pub returns : goal.returns
 returns c =
     let b = c.args.b in
     subst (Joined c.put_in.result)
-    (last_place _ (held_pending b) (number b) (held_number b c.requires.has_room.ok)
-    ∙ ap (λ (q : Pending). held_pending b ++ (q ∷ [])) (one-group c.args.v c.args.k c.requires.v_lt_group_unit))
+    (last_place _ (held_pending b) c.number-n.result (held_number b c.requires.has_room.ok ∙ sym c.number-n.ensures)
+    ∙ ap (λ (q : Pending). held_pending b ++ (q ∷ [])) (one-group c.args.v c.args.k c.requires.is_variable))
     c.put_in.ensures

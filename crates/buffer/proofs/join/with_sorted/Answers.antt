@@ -1,5 +1,5 @@
 -- `buffer::join::with_sorted` meets its contract: the store goes in before the first that stands behind its place.
-use mathlib.Core.Path.{◌≡◌, refl, ap, subst, ◌∙◌}
+use mathlib.Core.Path.{◌≡◌, refl, sym, ap, subst, ◌∙◌}
 use Prim.Native.Nat.{ℕ, ◌+◌, ◌*◌, ◌/◌, ◌%◌, ◌≤◌, ◌<◌}
 use native.Mathlib.Omega.{arith}
 use lib.ListN.{length}
@@ -10,6 +10,7 @@ use Rattle.buffer.specs.Held.{entry, held_pending}
 use Rattle.buffer.specs.HeldLaws.{held_number}
 use Rattle.buffer.specs.Posts.{Joined}
 use Rattle.buffer.proofs.PlaceLaws.{first_within, sorted_place}
+use Rattle.buffer.proofs.ReadLaws.{found_or}
 use Rattle.buffer.proofs.join.with_sorted.Goals as goal
 
 -- group and variable make one byte
@@ -19,23 +20,22 @@ entry_of byte g v k h e same low =
     let variable : byte % group_unit ≡ v = omega arith in
     λ i. record { group = group i; variable = variable i; value = k }
 
-pub overflow_mul-byte : goal.overflow_mul-byte
-overflow_mul-byte c = omega (arith, c.joined_group.ensures, c.requires.group)
-
-pub overflow_add-byte : goal.overflow_add-byte
-overflow_add-byte c = omega (arith, c.joined_group.ensures, c.requires.group, c.requires.variable)
-
 pub put_in-requires : goal.put_in-requires
 put_in-requires c =
+    let l = held_pending c.args.b in
     let number = held_number c.args.b c.requires.room.ok in
-    let within : c.first_after-at.result ≤ length (held_pending c.args.b) = rw c.first_after-at.ensures (first_within _ _) in
+    let at = c.unwrap_or-at.ensures ∙ found_or _ l _ _ c.first_after.ensures (number ∙ sym c.number.ensures) in
+    let within : c.unwrap_or-at.result ≤ length l = rw at (first_within _ _) in
     record { room = c.requires.room; within = omega arith }
 
 pub returns : goal.returns
 returns c =
-    let at = c.first_after-at in
     let a = c.args in
-    let same = entry_of _ c.joined_group.result a.v a.k _ refl c.joined_group.ensures (omega (arith, c.requires.variable)) in
+    let low : a.v < group_unit = omega (arith, c.requires.variable) in
+    let l = held_pending a.b in
+    let number = held_number a.b c.requires.room.ok in
+    let at = c.unwrap_or-at.ensures ∙ found_or _ l _ _ c.first_after.ensures (number ∙ sym c.number.ensures) in
+    let same = entry_of _ c.joined_group.result a.v a.k _ refl c.joined_group.ensures low in
     subst (Joined c.put_in.result)
-    (sorted_place _ (held_pending a.b) at.result at.ensures ∙ ap (λ (q : Pending). in_its_place q (held_pending a.b)) same)
+    (sorted_place _ l _ at ∙ ap (λ (q : Pending). in_its_place q l) same)
     c.put_in.ensures
