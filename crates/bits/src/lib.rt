@@ -2,7 +2,38 @@
 #![tactic(auto)]
 
 ghost use Rattle.std.specs.Prelude.{◌≡◌, ◌+◌, eqb};
-ghost use Rattle.bits.specs.Bits.{bit_of, weight, Behind, Lowest, WithoutLowest, Counted, Put};
+ghost use Rattle.std.specs.Iterator.{at_most};
+ghost use Rattle.bits.specs.Bits.{bit_of, weight, count_of, Behind, Lowest, WithoutLowest, Counted, Put, Next};
+
+// The numbers of a set that are still to come, from the lowest up.
+#[derive(Drop)]
+pub struct Members {
+    left: u64,
+}
+
+impl Iterator for Members {
+    type Item = u8;
+
+    ghost next_gives = { λ s r t. Next s.left r t.left };
+
+    ghost remaining = { λ s. at_most (count_of s.left) };
+
+    fn next(&mut self) -> Option<u8> {
+        if self.left == 0 {
+            return None;
+        }
+        let s = lowest(self.left);
+        self.left = without_lowest(self.left);
+        Some(s)
+    }
+}
+
+// The numbers of the set, from the lowest up.
+pub fn each(m: u64) -> Members
+    ensures { result.left ≡ m }
+{
+    Members { left: m }
+}
 
 // The set with s, if on: so a loop from the lowest number up builds a set from its tests.
 pub fn with_bit(m: u64, s: u8, on: bool) -> u64
