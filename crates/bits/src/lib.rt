@@ -47,7 +47,7 @@ pub fn with_bit(m: u64, s: u8, on: bool) -> u64
 pub fn has(m: u64, s: u8) -> bool
     ensures { result ≡ eqb (bit_of m s) 1 }
 {
-    if s < 64 { (m >> s) & 1 == 1 } else { false }
+    s < 64 && (m >> s) & 1 == 1
 }
 
 // The set with x in it too; from 64 up there is no place for x, and nothing changes.
@@ -61,19 +61,19 @@ pub fn put(m: u64, x: u8) -> u64
 pub fn lowest(m: u64) -> u8
     ensures { Lowest m result }
 {
-    u64::trailing_zeros(m) as u8
+    m.trailing_zeros() as u8
 }
 
 // The set less its lowest number.
 pub fn without_lowest(m: u64) -> u64
     ensures { WithoutLowest m result }
 {
-    if m == 0 { 0 } else { m & (m - 1) }
+    m & m.wrapping_sub(1)
 }
 
 // How many numbers the set has.
 pub fn count(m: u64) -> u32
     ensures { Counted m result }
 {
-    u64::count_ones(m)
+    m.count_ones()
 }
