@@ -1,5 +1,5 @@
 -- A set of numbers below 64 as one number: bit s is 1 when s is in the set.
-use Rattle.std.specs.Prelude.{◌≡◌, ◌⊎◌, Bool, true, false, ℕ, zero, suc, ◌+◌, ◌-◌, ◌/◌, ◌%◌, ◌^◌, ◌≤◌, ◌<◌}
+use Rattle.std.specs.Prelude.{◌≡◌, ◌⊎◌, Option, MatchOption, Bool, true, false, ℕ, zero, suc, ◌+◌, ◌-◌, ◌/◌, ◌%◌, ◌^◌, ◌≤◌, ◌<◌}
 use Rattle.std.specs.Int.Count.{count_trailing_zeros}
 
 -- as many numbers as a word has bits
@@ -79,3 +79,7 @@ pub record Put (m x r : ℕ) : Type 0 where
   pub kept : (s : ℕ) → Has m s → Has r s
   pub only : (s : ℕ) → Has r s → (s ≡ x) ⊎ Has m s
   pub no_less : m ≤ r
+
+-- the next number of a set: the lowest, which leaves the others; there is none where the set is empty
+abbrev pub Next : (m : ℕ) → Option ℕ → (left : ℕ) → Type 0
+Next m r left = MatchOption r ((m ≡ 0) × (left ≡ 0)) (λ s. (0 < m) × Lowest m s × WithoutLowest m left)

@@ -2,7 +2,38 @@
 #![tactic(auto)]
 
 ghost use Rattle.std.specs.Prelude.{◌≡◌, ◌+◌, eqb};
-ghost use Rattle.bits.specs.Bits.{bit_of, weight, Behind, Lowest, WithoutLowest, Counted, Put};
+ghost use Rattle.std.specs.Iterator.{at_most};
+ghost use Rattle.bits.specs.Bits.{bit_of, weight, count_of, Behind, Lowest, WithoutLowest, Counted, Put, Next};
+
+// The numbers of a set that are still to come, from the lowest up.
+#[derive(Drop)]
+pub struct Members {
+    left: u64,
+}
+
+impl Iterator for Members {
+    type Item = u8;
+
+    ghost next_gives = { λ s r t. Next s.left r t.left };
+
+    ghost remaining = { λ s. at_most (count_of s.left) };
+
+    fn next(&mut self) -> Option<u8> {
+        if self.left == 0 {
+            return None;
+        }
+        let s = lowest(self.left);
+        self.left = without_lowest(self.left);
+        Some(s)
+    }
+}
+
+// The numbers of the set, from the lowest up.
+pub fn each(m: u64) -> Members
+    ensures { result.left ≡ m }
+{
+    Members { left: m }
+}
 
 // The set with s, if on: so a loop from the lowest number up builds a set from its tests.
 pub fn with_bit(m: u64, s: u8, on: bool) -> u64
@@ -16,7 +47,7 @@ pub fn with_bit(m: u64, s: u8, on: bool) -> u64
 pub fn has(m: u64, s: u8) -> bool
     ensures { result ≡ eqb (bit_of m s) 1 }
 {
-    if s < 64 { (m >> s) & 1 == 1 } else { false }
+    s < 64 && (m >> s) & 1 == 1
 }
 
 // The set with x in it too; from 64 up there is no place for x, and nothing changes.
@@ -30,19 +61,19 @@ pub fn put(m: u64, x: u8) -> u64
 pub fn lowest(m: u64) -> u8
     ensures { Lowest m result }
 {
-    u64::trailing_zeros(m) as u8
+    m.trailing_zeros() as u8
 }
 
 // The set less its lowest number.
 pub fn without_lowest(m: u64) -> u64
     ensures { WithoutLowest m result }
 {
-    if m == 0 { 0 } else { m & (m - 1) }
+    m & m.wrapping_sub(1)
 }
 
 // How many numbers the set has.
 pub fn count(m: u64) -> u32
     ensures { Counted m result }
 {
-    u64::count_ones(m)
+    m.count_ones()
 }

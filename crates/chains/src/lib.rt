@@ -35,8 +35,7 @@ pub fn known(
 {
     let size = bytes.len();
     let mut number = index[chain] as usize;
-    while 0 < number {
-        let slot = number - 1;
+    while let Some(slot) = number.checked_sub(1) {
         if span::same_bytes(table, size * slot, bytes) {
             return true;
         }
@@ -60,9 +59,5 @@ pub fn clear(index: &mut [u32], width: usize)
     requires { width ≤ length index.old }
     ensures { Cleared index.new width }
 {
-    let mut i: usize = 0;
-    while i < width {
-        index[i] = 0;
-        i += 1;
-    }
+    index[..width].fill(0);
 }

@@ -14,6 +14,7 @@ const WEIGHT_VALUES: u64 = 67108864;
 const MOST_PIECES: usize = 31;
 
 // One for each piece: the bits in the middle of a product, so that none is like another. A table would be laid out anew at each look-up.
+#[tactic(auto, using(crate::specs::Sums::weight_fits))]
 fn weight(i: usize) -> u64
     requires { i < most_pieces }
     ensures { (result ≡ weight_at i) × (result < weight_values) }
@@ -31,6 +32,7 @@ fn turned(w: u64) -> u64
 }
 
 // The lower half of a piece by its weight, and the upper by the weight turned.
+#[tactic(auto, using(crate::specs::Sums::product_small))]
 pub fn weighed(x: u64, w: u64) -> u64
     requires { w < weight_values }
     ensures { (result ≡ weighed x w) × (result ≤ product_values) }
@@ -44,19 +46,16 @@ pub fn weighed(x: u64, w: u64) -> u64
 fn pieces_of(bytes: &[u8]) -> usize
     ensures { result ≡ pieces_of bytes.now }
 {
-    let all = bytes.len() / pieces::PIECE_SIZE;
-    if all < MOST_PIECES { all } else { MOST_PIECES }
+    (bytes.len() / pieces::PIECE_SIZE).min(MOST_PIECES)
 }
 
+#[tactic(auto, unfolding(crate::specs::Sums::sum_below))]
 pub fn sum_of(bytes: &[u8]) -> u64
     ensures { result ≡ sum_below bytes.now (pieces_of bytes.now) }
 {
-    let n = pieces_of(bytes);
-    let mut i: usize = 0;
     let mut sum: u64 = 0;
-    while i < n {
+    for i in 0..pieces_of(bytes) {
         sum += weighed(pieces::piece(bytes, pieces::PIECE_SIZE * i), weight(i));
-        i += 1;
     }
     sum
 }

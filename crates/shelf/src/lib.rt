@@ -2,7 +2,7 @@
 // from the links. Where an index is lent, its width is the number of its chains; where none is, it is 0.
 #![tactic(auto)]
 
-ghost use Rattle.std.specs.Prelude.{◌≡◌, false, ◌++◌, ◌+◌, ◌*◌, ◌≤◌, ◌<◌, min, length, drop};
+ghost use Rattle.std.specs.Prelude.{◌≡◌, false, ◌++◌, ◌+◌, ◌*◌, ◌≤◌, ◌<◌, length, drop};
 ghost use Rattle.reach.specs.WalkBack.{walk_back, Walkable};
 ghost use Rattle.lent.specs.Parts.{Looked};
 ghost use Rattle.chains.specs.Sums.{word_values};
@@ -19,21 +19,13 @@ pub struct Front {
 // The link of slot 0.
 pub const NO_LINK: u32 = 4294967295;
 
-pub fn smaller(a: usize, b: usize) -> usize
-    ensures { result ≡ min a b }
-{
-    if a < b { a } else { b }
-}
-
 // Whether one of the counted slots holds the bytes: from the newest back, since a state that is met again was most often met not long ago.
 fn known(table: &[u8], count: usize, bytes: &[u8]) -> bool
     requires { length bytes.now * count ≤ length table.now }
     ensures { Looked (length bytes.now) table.now count bytes.now result }
 {
     let size = bytes.len();
-    let mut i = count;
-    while 0 < i {
-        i -= 1;
+    for i in (0..count).rev() {
         if span::same_bytes(table, size * i, bytes) {
             return true;
         }
@@ -158,11 +150,9 @@ pub fn write_schedule(schedule: &mut [u8], links: &[u32], steps: usize, from: us
     requires { (steps ≤ length schedule.old) × Walkable links.now steps from }
     ensures { schedule.new ≡ walk_back links.now steps from ++ drop steps schedule.old }
 {
-    let mut left = steps;
     let mut slot = from;
-    while 0 < left {
+    for left in (0..steps).rev() {
         let link = links[slot];
-        left -= 1;
         schedule[left] = (link % 64) as u8;
         slot = (link / 64) as usize;
     }

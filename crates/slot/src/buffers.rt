@@ -22,11 +22,8 @@ pub fn put_buffers(table: &mut [u8], at: usize, x: State)
     requires { at + most_threads * buffer_size ≤ length table.old }
     ensures { Laid table.old table.new at (buffers_bytes x.bufs) }
 {
-    let mut done: usize = 0;
-    while done < rules::THREADS {
-        let b = x.bufs[done];
-        put_buffer(table, at + rules::BUFFER_SIZE * done, b);
-        done += 1;
+    for (t, b) in x.bufs.iter().enumerate() {
+        put_buffer(table, at + rules::BUFFER_SIZE * t, *b);
     }
 }
 
@@ -53,10 +50,8 @@ pub fn read_buffers(table: &[u8], at: usize) -> [Buf; rules::THREADS]
         slots: [0; rules::ENTRIES_SIZE],
     };
     let mut bufs = [empty; rules::THREADS];
-    let mut read: usize = 0;
-    while read < rules::THREADS {
-        bufs[read] = read_buffer(table, at + rules::BUFFER_SIZE * read);
-        read += 1;
+    for (t, b) in bufs.iter_mut().enumerate() {
+        *b = read_buffer(table, at + rules::BUFFER_SIZE * t);
     }
     bufs
 }

@@ -11,11 +11,7 @@ pub fn put_bytes(table: &mut [u8], at: usize, bytes: &[u8])
     requires { at + length bytes.now ≤ length table.old }
     ensures { Laid table.old table.new at bytes.now }
 {
-    let mut done: usize = 0;
-    while done < bytes.len() {
-        table[at + done] = bytes[done];
-        done += 1;
-    }
+    table[at..at + bytes.len()].copy_from_slice(bytes);
 }
 
 // Fills `out` with the table's bytes from `at` on.
@@ -23,8 +19,7 @@ pub fn read_bytes(out: &mut [u8], table: &[u8], at: usize)
     requires { at + length out.old ≤ length table.now }
     ensures { out.new ≡ bytes_at table.now at (length out.old) }
 {
-    let end = at + out.len();
-    put_bytes(out, 0, &table[at..end]);
+    out.copy_from_slice(&table[at..at + out.len()]);
 }
 
 // Whether the table holds the bytes from `at` on: piece by piece from the front (docs/COMPARISON.md says why), then what is less than a piece.
@@ -33,12 +28,13 @@ pub fn same_bytes(table: &[u8], at: usize, bytes: &[u8]) -> bool
     ensures { Compared (bytes_at table.now at (length bytes.now)) bytes.now result }
 {
     let size = bytes.len();
-    let mut found: usize = 0;
-    while pieces::PIECE_SIZE <= size - found {
+    let whole = size / pieces::PIECE_SIZE;
+    for i in 0..whole {
+        let found = pieces::PIECE_SIZE * i;
         if pieces::piece(table, at + found) != pieces::piece(bytes, found) {
             return false;
         }
-        found += pieces::PIECE_SIZE;
     }
-    pieces::same_one_by_one(table, at + found, &bytes[found..size])
+    let found = pieces::PIECE_SIZE * whole;
+    table[at + found..at + size] == bytes[found..]
 }

@@ -5,25 +5,23 @@ ghost use Rattle.std.specs.Prelude.{◌≡◌, ◌/◌, ◌%◌, ◌<◌};
 ghost use Rattle.rules.specs.Limits.{byte_values};
 ghost use Rattle.words.specs.Words.{word};
 
-use rules::BYTE_VALUES;
-
 // The value that two bytes are.
 pub fn word(high: u8, low: u8) -> u16
     ensures { result ≡ word high low }
 {
-    (high as u16) * (BYTE_VALUES as u16) + (low as u16)
+    u16::from_be_bytes([high, low])
 }
 
 // The higher byte of a value.
 pub fn high(k: u16) -> u8
     ensures { (result ≡ k / byte_values) × (result < byte_values) }
 {
-    (k / (BYTE_VALUES as u16)) as u8
+    k.to_be_bytes()[0]
 }
 
 // The lower byte of a value.
 pub fn low(k: u16) -> u8
     ensures { (result ≡ k % byte_values) × (result < byte_values) }
 {
-    (k % (BYTE_VALUES as u16)) as u8
+    k.to_be_bytes()[1]
 }

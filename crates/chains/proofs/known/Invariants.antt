@@ -6,8 +6,11 @@ use Rattle.lent.specs.Parts.{slot_at}
 use Rattle.chains.specs.Chains.{On}
 use Rattle.chains.proofs.known.Given as goal
 
-abbrev pub invariant-loop-number : goal.invariant-loop-number
-invariant-loop-number l = (l.number ≤ l.count) × ((i : ℕ) → i < l.count → slot_at (length l.bytes) l.table i ≡ l.bytes → On l.index l.width i l.number)
+abbrev pub invariant-loop-slot : goal.invariant-loop-slot
+invariant-loop-slot l = record {
+  counted : l.number ≤ l.count;
+  ahead : (i : ℕ) → i < l.count → slot_at (length l.bytes) l.table i ≡ l.bytes → On l.index l.width i l.number;
+}
 
-abbrev pub decreases-loop-number : goal.decreases-loop-number
-decreases-loop-number l = l.number
+abbrev pub decreases-loop-slot : goal.decreases-loop-slot
+decreases-loop-slot l = l.number

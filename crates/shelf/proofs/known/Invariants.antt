@@ -6,7 +6,4 @@ use Rattle.lent.specs.Parts.{slot_at}
 use Rattle.shelf.proofs.known.Given as goal
 
 abbrev pub invariant-loop-i : goal.invariant-loop-i
-invariant-loop-i l = (l.i ≤ l.count) × ((k : ℕ) → l.i ≤ k → k < l.count → slot_at (length l.bytes) l.table k ≡ l.bytes → ⊥)
-
-abbrev pub decreases-loop-i : goal.decreases-loop-i
-decreases-loop-i l = l.i
+invariant-loop-i l = (k : ℕ) → l.i ≤ k → k < l.count → slot_at (length l.bytes) l.table k ≡ l.bytes → ⊥

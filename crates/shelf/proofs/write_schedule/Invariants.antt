@@ -4,6 +4,3 @@ use Rattle.shelf.proofs.write_schedule.Given as goal
 
 abbrev pub invariant-loop-left : goal.invariant-loop-left
 invariant-loop-left l = WalkingBack l.links l.steps l.from l.initial.schedule l.schedule l.left l.slot
-
-abbrev pub decreases-loop-left : goal.decreases-loop-left
-decreases-loop-left l = l.left

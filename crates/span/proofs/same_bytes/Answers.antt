@@ -1,45 +1,39 @@
-use mathlib.Core.Path.{◌≡◌, refl}
-use Prim.Native.Nat.{◌+◌, ◌-◌}
-use native.Mathlib.Omega.{arith}
-use lib.ListN.{length, length-take, length-drop}
+use Rattle.std.proofs.Common.{◌≡◌, ◌+◌, ◌-◌, ◌*◌, ◌/◌, length, arith}
+use Rattle.std.proofs.lemmas.Slice.Eq.{slice_eq-Decides}
+use Rattle.std.proofs.lemmas.Bool.Decides.{Decides-eqb}
 use Rattle.span.specs.Span.{bytes_at}
-use Rattle.span.specs.SpanLaws.{bytes_at_number, found_more, told_apart, left_decides}
+use Rattle.span.specs.SpanLaws.{found_more, told_apart, left_decides}
 use Rattle.span.specs.Pieces.{piece_size, same_piece, other_piece}
 use Rattle.span.proofs.same_bytes.Goals as goal
-
-pub loop-found-init : goal.loop-found-init
-loop-found-init c = (omega arith, refl)
 
 pub returns-then-piece : goal.returns-then-piece
 returns-then-piece c =
     let given = c.args in
-    let found = c.loop-found.found in
+    let found = piece_size * c.loop-i.i in
     let differs =
     other_piece given.table.now given.bytes.now (given.at + found) found (omega arith) (omega arith)
-    c.piece.ensures c.piece-in-loop-found.ensures c.if-piece.true in
+    c.piece.ensures c.piece-in-loop-i.ensures c.if-piece.true in
     told_apart given.table.now given.at given.bytes.now found piece_size (omega arith) (omega arith) differs
 
-pub loop-found-preserved : goal.loop-found-preserved
-loop-found-preserved c =
+pub loop-i-preserved : goal.loop-i-preserved
+loop-i-preserved c =
     let given = c.args in
-    let found = c.loop-found.found in
+    let found = piece_size * c.loop-i.i in
+    let next : piece_size * (c.loop-i.i + 1) ≡ found + piece_size = omega arith in
     let same =
     same_piece given.table.now given.bytes.now (given.at + found) found (omega arith) (omega arith)
-    (λ i. omega (arith, c.shared_slice_known-1.given i)) (λ i. omega (arith, c.shared_slice_known-2-1.given i))
-    c.piece.ensures c.piece-in-loop-found.ensures c.if-piece.false in (
-      omega arith,
-      found_more given.table.now given.at given.bytes.now found piece_size (omega arith) (omega arith) c.loop-found.invariant.1 same,
-    )
-
-pub same_one_by_one-requires : goal.same_one_by_one-requires
-same_one_by_one-requires c = simp (length-take, length-drop) (omega arith)
+    (λ k. omega (arith, c.type_inv.table k)) (λ k. omega (arith, c.type_inv.bytes k))
+    c.piece.ensures c.piece-in-loop-i.ensures c.if-piece.false in
+    rw next (found_more given.table.now given.at given.bytes.now found piece_size (omega arith) (omega arith) c.loop-i.invariant same)
 
 pub returns : goal.returns
 returns c =
     let given = c.args in
     let bytes = given.bytes.now in
-    let found = c.loop-found.found in
+    let found = piece_size * (length bytes / piece_size) in
     let left = length bytes - found in
-    let count : length (bytes_at bytes found left) ≡ left = bytes_at_number bytes found left (omega arith) in
-    left_decides given.table.now given.at bytes found left (omega arith) (omega arith) c.loop-found.invariant.1 (omega arith)
-    (rw count at c.same_one_by_one.ensures)
+    let all : c.loop-i.i ≡ length bytes / piece_size = omega arith in
+    let count : given.at + length bytes - (given.at + found) ≡ left = omega arith in
+    let decides = slice_eq-Decides Decides-eqb (bytes_at given.table.now (given.at + found) left) (bytes_at bytes found left) _ (rw count at c.eq.ensures) in
+    left_decides given.table.now given.at bytes found left (omega arith) (omega arith) (rw all at c.loop-i.invariant) (omega arith)
+    (record { only = decides.0; each = decides.1 })

@@ -1,30 +1,17 @@
-use mathlib.Core.Path.{◌≡◌, refl}
-use native.Mathlib.Numerals.{add-one}
-use native.Mathlib.Omega.{arith}
-use lib.ListN.{length-set}
-use lib.Seq.{take_all}
-use Rattle.rules.specs.Limits.{most_threads}
+use Rattle.std.proofs.Common.{refl, add-one, length-set, arith}
 use Rattle.slot.specs.Bytes.{buffers_bytes}
 use Rattle.slot.proofs.BufferLaws.{read_more}
 use Rattle.slot.proofs.buffers.read_buffers.Goals as goal
 
-pub loop-read-init : goal.loop-read-init
+pub loop-t-init : goal.loop-t-init
 unfolding buffers_bytes
-loop-read-init c = (omega arith, refl, record { bytes = refl; number = refl; full = tt })
+loop-t-init c = record { number = refl; read = record { bytes = refl; number = refl; full = tt } }
 
-pub loop-read-preserved : goal.loop-read-preserved
-loop-read-preserved c =
-    let given = c.args in
-    let l = c.loop-read.bufs in
-    let read = c.loop-read.read in
-    let next = c.read_buffer in (
-      omega arith,
-      simp length-set c.loop-read.invariant.1,
-      rw add-one (read_more given.table.now given.at l read next.result (omega arith) c.loop-read.invariant.2 next.ensures),
-    )
-
-pub returns : goal.returns
-returns c =
-    let count : c.loop-read.read ≡ most_threads = omega arith in
-    let whole = take_all c.loop-read.read c.loop-read.bufs (omega arith) in
-    rw (whole, count) at c.loop-read.invariant.2
+pub loop-t-preserved : goal.loop-t-preserved
+loop-t-preserved c =
+    record {
+      number = simp length-set c.loop-t.invariant.number;
+      read =
+          rw add-one
+          (read_more c.args.table.now c.args.at c.loop-t.b-items c.loop-t.t c.read_buffer.result (omega arith) c.loop-t.invariant.read c.read_buffer.ensures);
+    }
