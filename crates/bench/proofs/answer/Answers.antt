@@ -2,5 +2,5 @@
 use Rattle.verdict.specs.Steps.{steps_there}
 use Rattle.bench.proofs.answer.Goals as goal
 
-pub print_search-requires : goal.print_search-requires
-print_search-requires c = steps_there _ _ _ _ c.judge-verdict.ensures.verdict_promise
+pub print_verdict-requires : goal.print_verdict-requires
+print_verdict-requires c = steps_there _ _ _ _ c.judge-verdict.ensures.verdict_promise
