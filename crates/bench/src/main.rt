@@ -5,7 +5,6 @@ ghost use Rattle.std.specs.Prelude.{◌≡◌, ℕ, ◌≤◌, length, IfOk, Som
 ghost use Rattle.search.specs.declared.Answer.TheVariants.{Reachable};
 ghost use Rattle.bench.specs.Hex.{two_digits};
 
-use std::fmt::Display;
 use std::io::Read;
 use std::{fmt, io};
 use verdict::Verdict;
@@ -33,10 +32,10 @@ fn read_input(rt: &HostRuntime, room: &mut [u8]) -> io::Result<usize>
 }
 
 // A step in two-digit capital hex.
-#[derive(Drop)]
+#[derive(Clone, Copy)]
 struct Step(u8);
 
-impl Display for Step {
+impl fmt::Display for Step {
     ghost output = { λ step. Some (two_digits step.0) };
 
     #[tactic(auto, using(crate::proofs::Hex::hex_digits))]
@@ -45,8 +44,6 @@ impl Display for Step {
         write!(f, "{step:02X}")
     }
 }
-
-// What is printed behind a failed write is left out, so no verdict stands without its reasons.
 
 // The steps with a blank between, and the line's end.
 fn print_schedule(rt: &HostRuntime, steps: &[u8]) -> io::Result<()> {
@@ -89,6 +86,7 @@ fn print_decision(rt: &HostRuntime, release: bool) -> io::Result<()> {
     rt.write_all(&line.text[..line.count])
 }
 
+// What is behind a failed write is left out, so no verdict stands without its reasons.
 fn print_verdict(rt: &HostRuntime, verdict: Verdict, schedule: &[u8]) -> io::Result<()>
     requires { (d n : ℕ) → verdict.search ≡ Reachable d n → d ≤ length schedule.now }
 {
@@ -97,6 +95,8 @@ fn print_verdict(rt: &HostRuntime, verdict: Verdict, schedule: &[u8]) -> io::Res
     print_decision(rt, verdict.release)
 }
 
+// The verdict says that the steps of a reachable goal are there.
+#[tactic(auto, using(verdict::specs::Steps::steps_there))]
 fn answer(rt: &HostRuntime, job: &[u8]) {
     let mut table = [0u8; TABLE_SIZE];
     let mut links = [0u32; SLOTS];
