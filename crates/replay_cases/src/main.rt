@@ -2,75 +2,32 @@
 // two bytes, and then the job and the steps.
 #![tactic(auto)]
 
-use cases::{Number, STDOUT_FILENO};
 use replay::Answer;
+use std::io;
 
 // More steps than two bytes can count. A case that asks for more ends the run.
 const SCHEDULE_ROOM: usize = 70000;
 
-// A blank, and the number in decimal.
-fn print_number(n: u64) {
-    io::write_all(STDOUT_FILENO, b" ");
-    io::print_decimal(STDOUT_FILENO, n);
-}
-
-// A refusal as every job prints it.
-fn print_refused(number: u8, offset: usize) {
-    io::write_all(STDOUT_FILENO, b"REFUSED");
-    print_number(number as u64);
-    print_number(offset as u64);
-}
-
-fn end_line() {
-    io::write_all(STDOUT_FILENO, b"\n");
-}
-
-fn print_line(answer: Answer) {
+fn print_line(rt: &HostRuntime, answer: Answer) -> io::Result<()> {
     match answer {
-        Answer::Refused(number, offset) => {
-            print_refused(number, offset);
-        }
-        Answer::Reaches => {
-            io::write_all(STDOUT_FILENO, b"REACHES");
-        }
-        Answer::FallsShort => {
-            io::write_all(STDOUT_FILENO, b"FALLS SHORT");
-        }
-        Answer::Stuck(step, why) => {
-            io::write_all(STDOUT_FILENO, b"STUCK");
-            print_number(step as u64);
-            print_number(reasons::number_of(why));
-        }
+        Answer::Refused(number, offset) => println!(rt; "REFUSED {number} {offset}"),
+        Answer::Reaches => println!(rt; "REACHES"),
+        Answer::FallsShort => println!(rt; "FALLS SHORT"),
+        Answer::Stuck(step, why) => println!(rt; "STUCK {step} {}", reasons::number_of(why)),
     }
-    end_line();
 }
 
-// One case, read to the front of the two rooms. Whether it was wholly there, and there was room for it.
-fn run_case(schedule: &mut [u8], job: &mut [u8]) -> bool {
-    let Number::Is(steps) = cases::read_long() else {
-        return false;
-    };
-    let job_read = cases::read_job(job);
-    let schedule_read = cases::read_front(schedule, steps);
-    if !(job_read.whole & schedule_read.whole) {
-        return false;
-    }
-    let job_end = job_read.end;
-    let schedule_end = schedule_read.end;
-    print_line(replay::replay(&job[0..job_end], &schedule[0..schedule_end]));
-    true
-}
-
-fn run_next() -> bool {
+// One case. It fails where the input ends, or has more than there is room for.
+fn run_case(rt: &HostRuntime) -> io::Result<()> {
     let mut schedule = [0u8; SCHEDULE_ROOM];
     let mut job = [0u8; cases::JOB_ROOM];
-    run_case(&mut schedule, &mut job)
+    let steps = cases::read_long(rt)? as usize;
+    let count = cases::read_job(rt, &mut job)?;
+    cases::read_front(rt, &mut schedule, steps)?;
+    print_line(rt, replay::replay(&job[..count], &schedule[..steps]))
 }
 
-// A proved loop has to end, so it counts its turns down, from a number that no run uses up.
-fn main() {
-    let mut turns = u64::MAX;
-    while turns > 0 && run_next() {
-        turns -= 1;
-    }
+// Case by case, until one fails. A proved loop has to end, so it counts, to a number that no run comes to.
+fn main(rt: HostRuntime) {
+    let _ = (0..u64::MAX).try_for_each(|_| run_case(&rt));
 }

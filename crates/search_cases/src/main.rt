@@ -3,11 +3,13 @@
 // four bytes each; the count of the job's bytes, two bytes; and then the job.
 #![tactic(auto)]
 
-ghost use Rattle.std.specs.Prelude.{◌<◌, ◌≤◌, length};
-ghost use Rattle.search_cases.specs.Room.{Within};
+ghost use Rattle.std.specs.Prelude.{◌<◌, ◌≤◌, IfOk, IfSome};
+ghost use Rattle.std.proofs.Props.{props};
+ghost use Rattle.search_cases.specs.declared.TheConstants.{TABLE_ROOM, LINKS_ROOM, SCHEDULE_ROOM, INDEX_ROOM};
 
-use cases::{Number, STDOUT_FILENO};
 use search::Answer;
+use std::io;
+use std::io::ErrorKind;
 
 // All that there is to lend; a case that asks for more ends the run.
 const TABLE_ROOM: usize = 65536;
@@ -19,44 +21,58 @@ const SCHEDULE_ROOM: usize = 1024;
 const INDEX_ROOM: usize = 1024;
 
 // As many index numbers say that there is none: the plain search.
-const NO_INDEX: usize = 4294967295;
+const NO_INDEX: u32 = u32::MAX;
 
 // The largest prime below 2^32.
 const SUM_MODULUS: u64 = 4294967291;
 
-// How much of each memory is lent for a case.
+// How much of each memory is lent for a case, and what the index is filled from.
 #[derive(Clone, Copy)]
 struct Sizes {
     table: usize,
     links: usize,
     schedule: usize,
-    index: usize,
-    first: usize,
+    index: Option<usize>,
+    first: u32,
+    ghost table_there: { table ≤ TABLE_ROOM },
+    ghost links_there: { links ≤ LINKS_ROOM },
+    ghost schedule_there: { schedule ≤ SCHEDULE_ROOM },
+    ghost index_there: { IfSome index (λ n. n ≤ INDEX_ROOM) } by { Prim.hlevel props },
 }
 
-#[derive(Clone, Copy)]
-enum Head {
-    Case(Sizes),
-    End,
+// So much of the room, or a failure where it is more.
+fn within(size: u32, room: usize) -> io::Result<usize>
+    ensures { IfOk result (λ n. n ≤ room) }
+{
+    let size = size as usize;
+    if size > room {
+        return Err(io::Error::from(ErrorKind::InvalidInput));
+    }
+    Ok(size)
 }
 
-fn read_head() -> Head {
-    let Number::Is(table) = cases::read_long() else {
-        return Head::End;
-    };
-    let Number::Is(links) = cases::read_long() else {
-        return Head::End;
-    };
-    let Number::Is(schedule) = cases::read_long() else {
-        return Head::End;
-    };
-    let Number::Is(index) = cases::read_long() else {
-        return Head::End;
-    };
-    let Number::Is(first) = cases::read_long() else {
-        return Head::End;
-    };
-    Head::Case(Sizes {
+fn read_size(rt: &HostRuntime, room: usize) -> io::Result<usize>
+    ensures { IfOk result (λ n. n ≤ room) }
+{
+    within(cases::read_long(rt)?, room)
+}
+
+fn read_index_size(rt: &HostRuntime) -> io::Result<Option<usize>>
+    ensures { IfOk result (λ index. IfSome index (λ n. n ≤ INDEX_ROOM)) }
+{
+    match cases::read_long(rt)? {
+        NO_INDEX => Ok(None),
+        size => Ok(Some(within(size, INDEX_ROOM)?)),
+    }
+}
+
+fn read_sizes(rt: &HostRuntime) -> io::Result<Sizes> {
+    let table = read_size(rt, TABLE_ROOM)?;
+    let links = read_size(rt, LINKS_ROOM)?;
+    let schedule = read_size(rt, SCHEDULE_ROOM)?;
+    let index = read_index_size(rt)?;
+    let first = cases::read_long(rt)?;
+    Ok(Sizes {
         table,
         links,
         schedule,
@@ -65,43 +81,13 @@ fn read_head() -> Head {
     })
 }
 
-// A blank, and the number in decimal.
-fn print_number(n: u64) {
-    io::write_all(STDOUT_FILENO, b" ");
-    io::print_decimal(STDOUT_FILENO, n);
-}
-
-// A refusal as every job prints it.
-fn print_refused(number: u8, offset: usize) {
-    io::write_all(STDOUT_FILENO, b"REFUSED");
-    print_number(number as u64);
-    print_number(offset as u64);
-}
-
-fn end_line() {
-    io::write_all(STDOUT_FILENO, b"\n");
-}
-
-fn print_answer(answer: Answer) {
+fn print_answer(rt: &HostRuntime, answer: Answer) -> io::Result<()> {
     match answer {
-        Answer::Refused(number, offset) => {
-            print_refused(number, offset);
-        }
-        Answer::Reachable(distance, states) => {
-            io::write_all(STDOUT_FILENO, b"REACHABLE");
-            print_number(distance as u64);
-            print_number(states as u64);
-        }
-        Answer::Unreachable(states) => {
-            io::write_all(STDOUT_FILENO, b"UNREACHABLE");
-            print_number(states as u64);
-        }
-        Answer::Unknown(slots) => {
-            io::write_all(STDOUT_FILENO, b"UNKNOWN");
-            print_number(slots as u64);
-        }
+        Answer::Refused(number, offset) => println!(rt; "REFUSED {number} {offset}"),
+        Answer::Reachable(distance, states) => println!(rt; "REACHABLE {distance} {states}"),
+        Answer::Unreachable(states) => println!(rt; "UNREACHABLE {states}"),
+        Answer::Unknown(slots) => println!(rt; "UNKNOWN {slots}"),
     }
-    end_line();
 }
 
 // 7 more, modulo 251: no power of two, so that no two slots near each other hold the same bytes.
@@ -109,112 +95,25 @@ fn after(x: u8) -> u8 {
     if x < 244 { x + 7 } else { x - 244 }
 }
 
-fn fill(bytes: &mut [u8], first: u8) {
+// Each element is what `next` makes of the one before it.
+fn fill<T: Copy, F: Fn(T) -> T>(room: &mut [T], first: T, next: F)
+    requires { F.IsAlwaysCallable next }
+{
     let mut x = first;
-    let mut i = 0;
-    while i < bytes.len() {
-        bytes[i] = x;
-        x = after(x);
-        i += 1;
-    }
-}
-
-fn fill_links(links: &mut [u32], first: u32) {
-    let mut x = first;
-    let mut i = 0;
-    while i < links.len() {
-        links[i] = x;
-        x = std::num::wrapping_add_u32(x, 1);
-        i += 1;
+    for element in room.iter_mut() {
+        *element = x;
+        x = next(x);
     }
 }
 
 fn mixed(sum: u64, x: u32) -> u64
-    ensures { result < 4294967291 }
+    ensures { result < SUM_MODULUS }
 {
-    ((sum % SUM_MODULUS) * 31 + x as u64) % SUM_MODULUS
+    ((sum % SUM_MODULUS) * 31 + u64::from(x)) % SUM_MODULUS
 }
 
-fn byte(x: u8) -> u32 {
-    x as u32
-}
-
-fn sum_of(bytes: &[u8]) -> u64 {
-    let mut sum = 0;
-    let mut i = 0;
-    while i < bytes.len() {
-        sum = mixed(sum, byte(bytes[i]));
-        i += 1;
-    }
-    sum
-}
-
-fn sum_of_links(links: &[u32]) -> u64 {
-    let mut sum = 0;
-    let mut i = 0;
-    while i < links.len() {
-        sum = mixed(sum, links[i]);
-        i += 1;
-    }
-    sum
-}
-
-fn print_sums(table: &[u8], links: &[u32], schedule: &[u8]) {
-    io::write_all(STDOUT_FILENO, b"SUMS");
-    print_number(sum_of(table));
-    print_number(sum_of_links(links));
-    print_number(sum_of(schedule));
-    end_line();
-}
-
-// What each memory but the index holds before a case.
-fn fill_all(table: &mut [u8], links: &mut [u32], schedule: &mut [u8]) {
-    fill(table, 3);
-    fill_links(links, 1000003);
-    fill(schedule, 5);
-}
-
-// The search with the first so many of each memory lent; the sums are over all of it, lent or not.
-fn run_search(table: &mut [u8], links: &mut [u32], schedule: &mut [u8], sizes: Sizes, job: &[u8])
-    requires { Within sizes table.old links.old schedule.old }
-{
-    fill_all(table, links, schedule);
-    let table_size = sizes.table;
-    let links_size = sizes.links;
-    let schedule_size = sizes.schedule;
-    let answer = search::search(
-        &mut table[0..table_size],
-        &mut links[0..links_size],
-        &mut schedule[0..schedule_size],
-        job,
-    );
-    print_answer(answer);
-    print_sums(table, links, schedule);
-}
-
-// The same with so much of the index lent.
-fn search_indexed(
-    table: &mut [u8],
-    links: &mut [u32],
-    schedule: &mut [u8],
-    index: &mut [u32],
-    sizes: Sizes,
-    job: &[u8],
-) -> Answer
-    requires within { Within sizes table.old links.old schedule.old }
-    requires index_in_bounds { sizes.index ≤ length index.old }
-{
-    let table_size = sizes.table;
-    let links_size = sizes.links;
-    let schedule_size = sizes.schedule;
-    let index_size = sizes.index;
-    search::indexed::search_indexed(
-        &mut table[0..table_size],
-        &mut links[0..links_size],
-        &mut schedule[0..schedule_size],
-        &mut index[0..index_size],
-        job,
-    )
+fn sum_of<T: Copy + Into<u32>>(room: &[T]) -> u64 {
+    room.iter().fold(0, |sum, x| mixed(sum, (*x).into()))
 }
 
 // Of the index only what has to be unchanged is looked at: all of it after a refusal, else what was not lent.
@@ -223,89 +122,54 @@ fn unchanged_from(answer: Answer, lent: usize) -> usize
 {
     match answer {
         Answer::Refused(_, _) => 0,
-        Answer::Reachable(_, _) => lent,
-        Answer::Unreachable(_) => lent,
-        Answer::Unknown(_) => lent,
+        _ => lent,
     }
 }
 
-fn print_index(index: &[u32], from: usize)
-    requires { from ≤ length index.now }
-{
-    io::write_all(STDOUT_FILENO, b"INDEX");
-    print_number(sum_of_links(&index[from..]));
-    end_line();
-}
-
-// The search with an index, which is filled with whatever the case says.
-fn run_indexed(
-    table: &mut [u8],
-    links: &mut [u32],
-    schedule: &mut [u8],
-    index: &mut [u32],
-    sizes: Sizes,
-    job: &[u8],
-)
-    requires within { Within sizes table.old links.old schedule.old }
-    requires index_in_bounds { sizes.index ≤ length index.old }
-{
-    fill_all(table, links, schedule);
-    fill_links(index, (sizes.first % 4294967296) as u32);
-    let answer = search_indexed(table, links, schedule, index, sizes, job);
-    print_answer(answer);
-    print_sums(table, links, schedule);
-    print_index(index, unchanged_from(answer, sizes.index));
-}
-
-// One case, whose job is read to the front of its room. Whether it was wholly there, and asked for no more than there is.
-fn run_case(
-    table: &mut [u8],
-    links: &mut [u32],
-    schedule: &mut [u8],
-    index: &mut [u32],
-    job: &mut [u8],
-) -> bool {
-    let Head::Case(sizes) = read_head() else {
-        return false;
-    };
-    let read = cases::read_job(job);
-    if !read.whole {
-        return false;
-    }
-    let end = read.end;
-    if sizes.table > table.len() {
-        return false;
-    }
-    if sizes.links > links.len() {
-        return false;
-    }
-    if sizes.schedule > schedule.len() {
-        return false;
-    }
-    if sizes.index == NO_INDEX {
-        run_search(table, links, schedule, sizes, &job[0..end]);
-        return true;
-    }
-    if sizes.index > index.len() {
-        return false;
-    }
-    run_indexed(table, links, schedule, index, sizes, &job[0..end]);
-    true
-}
-
-fn run_next() -> bool {
+// The search with the front of each memory lent; the sums are over all of it, lent or not.
+fn run_search(rt: &HostRuntime, sizes: Sizes, job: &[u8]) -> io::Result<()> {
     let mut table = [0u8; TABLE_ROOM];
     let mut links = [0u32; LINKS_ROOM];
     let mut schedule = [0u8; SCHEDULE_ROOM];
     let mut index = [0u32; INDEX_ROOM];
-    let mut job = [0u8; cases::JOB_ROOM];
-    run_case(&mut table, &mut links, &mut schedule, &mut index, &mut job)
+    fill(&mut table, 3, after);
+    fill(&mut links, 1000003, |x: u32| x.wrapping_add(1));
+    fill(&mut schedule, 5, after);
+    fill(&mut index, sizes.first, |x: u32| x.wrapping_add(1));
+
+    let table_lent = &mut table[..sizes.table];
+    let links_lent = &mut links[..sizes.links];
+    let schedule_lent = &mut schedule[..sizes.schedule];
+    let answer = match sizes.index {
+        None => search::search(table_lent, links_lent, schedule_lent, job),
+        Some(size) => {
+            let index_lent = &mut index[..size];
+            search::indexed::search_indexed(table_lent, links_lent, schedule_lent, index_lent, job)
+        }
+    };
+
+    print_answer(rt, answer)?;
+    println!(rt;
+        "SUMS {} {} {}",
+        sum_of(&table),
+        sum_of(&links),
+        sum_of(&schedule)
+    )?;
+    if let Some(size) = sizes.index {
+        println!(rt; "INDEX {}", sum_of(&index[unchanged_from(answer, size)..]))?;
+    }
+    Ok(())
 }
 
-// A proved loop has to end, so it counts its turns down, from a number that no run uses up.
-fn main() {
-    let mut turns = u64::MAX;
-    while turns > 0 && run_next() {
-        turns -= 1;
-    }
+// One case. It fails where the input ends, or asks for more than there is.
+fn run_case(rt: &HostRuntime) -> io::Result<()> {
+    let mut job = [0u8; cases::JOB_ROOM];
+    let sizes = read_sizes(rt)?;
+    let count = cases::read_job(rt, &mut job)?;
+    run_search(rt, sizes, &job[..count])
+}
+
+// Case by case, until one fails. A proved loop has to end, so it counts, to a number that no run comes to.
+fn main(rt: HostRuntime) {
+    let _ = (0..u64::MAX).try_for_each(|_| run_case(&rt));
 }

@@ -1,0 +1,2 @@
+-- What the formatter's hex digits are.
+pub mod Hex

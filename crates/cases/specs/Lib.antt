@@ -1,2 +1,0 @@
--- What a number of a case can be.
-pub mod Number

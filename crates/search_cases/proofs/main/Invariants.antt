@@ -1,5 +1,0 @@
--- `search_cases::main` ends. The measure is the number of turns that are left.
-use Rattle.search_cases.proofs.main.Given as goal
-
-abbrev pub decreases-loop-turns : goal.decreases-loop-turns
-decreases-loop-turns l = l.turns

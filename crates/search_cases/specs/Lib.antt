@@ -1,2 +1,0 @@
--- What may be lent for a case.
-pub mod Room
