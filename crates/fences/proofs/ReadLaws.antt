@@ -13,20 +13,19 @@ use Rattle.rules.specs.Fences.{onward, onward_at, successors, role_at}
 use Rattle.rules.specs.Keeps.{instruction_of_thread}
 use Rattle.rules.specs.declared.Instr.{Instr}
 use Rattle.rules.specs.declared.Role.TheVariants.{Other}
-use Rattle.job.specs.Passed.{place_of}
-use Rattle.job.specs.declared.PlaceRead.{PlaceRead}
-use Rattle.job.specs.declared.PlaceRead.TheVariants.{Holds, Ended}
+use Rattle.std.specs.Prelude.{Option, Some, None}
+use Rattle.tables.specs.Told.{told}
 use Rattle.fences.specs.Places.{thread_of, Joined}
 
-module _ (bytes : List ℕ) (t p : ℕ) (r : PlaceRead) (read : place_of r ≡ instruction_at (job_of bytes) t p) where
-  read_at : place_of r ≡ get_elem? (thread_of bytes t) p
+module _ (bytes : List ℕ) (t p : ℕ) (r : Option Instr) (read : told r ≡ instruction_at (job_of bytes) t p) where
+  read_at : told r ≡ get_elem? (thread_of bytes t) p
   read_at = read ∙ instruction_of_thread (job_of bytes) t p
 
-  pub read_holds : {i : Instr} → r ≡ Holds i → get_elem? (thread_of bytes t) p ≡ some i
-  read_holds e = sym read_at ∙ ap place_of e
+  pub read_holds : {i : Instr} → r ≡ Some i → get_elem? (thread_of bytes t) p ≡ some i
+  read_holds e = sym read_at ∙ ap told e
 
-  pub read_ended : r ≡ Ended → get_elem? (thread_of bytes t) p ≡ none
-  read_ended e = sym read_at ∙ ap place_of e
+  pub read_ended : r ≡ None → get_elem? (thread_of bytes t) p ≡ none
+  read_ended e = sym read_at ∙ ap told e
 
 -- past a thread's end nothing plays a role
 pub role_past : (code : List Instr) (p : ℕ) → get_elem? code p ≡ none → role_at code p ≡ Other

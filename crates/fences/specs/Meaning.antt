@@ -1,5 +1,5 @@
 -- What a fence check answers, for every input: 01, "Replay and fence check", and 02, request 4.
-use Rattle.std.specs.Prelude.{◌≡◌, refl, List, [], ◌∷◌, ℕ, get_or}
+use Rattle.std.specs.Prelude.{◌≡◌, refl, List, [], ◌∷◌, ℕ, get_or, Result, Ok, Err}
 use Rattle.std.proofs.Common.{sym, ◌∙◌, ap, subst}
 use Rattle.reach.specs.Words.{refusal_words}
 use Rattle.rules.specs.Job.{Job}
@@ -8,20 +8,29 @@ use Rattle.rules.specs.Fences as rules
 use Rattle.rules.specs.FenceCheck.{one_fence_answer}
 use Rattle.rules.specs.declared.Instr.{Instr}
 use Rattle.fences.specs.declared.Answer.{Answer}
-use Rattle.fences.specs.declared.Answer.TheVariants.{Refused, Fenced, Open}
+use Rattle.fences.specs.declared.Answer.TheVariants.{Fenced, Open}
+use Rattle.readers.specs.Refusals.{number_of, refusal_by, refusal_numbered}
+use Rattle.readers.specs.declared.faults.Fault.{Fault}
+use Rattle.readers.specs.declared.faults.Refusal.TheVariants.{ThreadBad}
 
 -- each case of the answer with its number and values
 abbrev pub checked_words : rules.Checked → List ℕ
 checked_words rules.fenced = 1 ∷ 0 ∷ 0 ∷ 0 ∷ []
 checked_words (rules.open_at t s l) = 2 ∷ t ∷ s ∷ l ∷ []
 
-abbrev pub words : Answer → List ℕ
-words (Refused number offset) = refusal_words number offset
-words Fenced = checked_words rules.fenced
-words (Open t s l) = checked_words (rules.open_at t s l)
+abbrev pub answer_words : Answer → List ℕ
+answer_words Fenced = checked_words rules.fenced
+answer_words (Open t s l) = checked_words (rules.open_at t s l)
+
+abbrev pub words : Result Answer Fault → List ℕ
+words (Err f) = refusal_words (number_of f.refusal) f.offset
+words (Ok a) = answer_words a
 
 -- worked values of them
-pub words_are : (words (Refused 4 10) ≡ 0 ∷ 4 ∷ 10 ∷ 0 ∷ []) × (words Fenced ≡ 1 ∷ 0 ∷ 0 ∷ 0 ∷ []) × (words (Open 3 0 1) ≡ 2 ∷ 3 ∷ 0 ∷ 1 ∷ [])
+pub words_are :
+    (words (Err (record { refusal = ThreadBad; offset = 10 })) ≡ 0 ∷ 4 ∷ 10 ∷ 0 ∷ [])
+    × (words (Ok Fenced) ≡ 1 ∷ 0 ∷ 0 ∷ 0 ∷ [])
+    × (words (Ok (Open 3 0 1)) ≡ 2 ∷ 3 ∷ 0 ∷ 1 ∷ [])
 words_are = (refl, refl, refl)
 
 -- "The answer is FENCED, or OPEN with the least (thread, store, load)." It is of the threads alone.
@@ -55,17 +64,17 @@ pub fences_refused : (bytes : List ℕ) (number offset : ℕ) → decode bytes �
 fences_refused bytes number offset e = subst (λ d. FenceOf d (refusal_words number offset)) (sym e) refl
 
 -- The words tell the answers apart: from the words back to the case.
-case_of : List ℕ → Answer
+case_of : List ℕ → Result Answer Fault
 case_of ws =
     let x = get_or ws 1 0 in
     let y = get_or ws 2 0 in
-    get_or (Refused x y ∷ Fenced ∷ []) (get_or ws 0 0) (Open x y (get_or ws 3 0))
+    get_or (Err (record { refusal = refusal_by x; offset = y }) ∷ Ok Fenced ∷ []) (get_or ws 0 0) (Ok (Open x y (get_or ws 3 0)))
 
-case_back : (a : Answer) → case_of (words a) ≡ a
+case_back : (a : Result Answer Fault) → case_of (words a) ≡ a
 unfolding case_of
-case_back (Refused number offset) = refl
-case_back Fenced = refl
-case_back (Open t s l) = refl
+case_back (Err f) = ap (λ r. Err (record { refusal = r; offset = f.offset })) (refusal_numbered f.refusal)
+case_back (Ok Fenced) = refl
+case_back (Ok (Open t s l)) = refl
 
-pub same_answer : (a b : Answer) → words a ≡ words b → a ≡ b
+pub same_answer : (a b : Result Answer Fault) → words a ≡ words b → a ≡ b
 same_answer a b e = sym (case_back a) ∙ ap case_of e ∙ case_back b

@@ -9,6 +9,7 @@ use Rattle.bits.specs.Bits.{width, Has, Put}
 use Rattle.bits.specs.BitLaws.{bit_of_zero}
 use Rattle.rules.specs.Limits.{longest_thread}
 use Rattle.rules.specs.File.{job_of}
+use Rattle.fences.specs.declared.Thread.{Thread}
 use Rattle.rules.specs.Sound.{JobIn}
 use Rattle.rules.specs.Fences.{onward_at, successors, role_at, Move, Passes, Walk, Leads, Live, OpenIn, Open, fenced, open_at, ChecksTo}
 use Rattle.rules.specs.FenceCheck.{leads_on, move_inside, load_inside, store_inside, least_open}
@@ -21,6 +22,9 @@ use Rattle.rules.specs.declared.Passing.TheVariants.{Anything, NoFence}
 -- the instructions of a thread, none for a thread that the job doesn't have
 abbrev pub thread_of : List ℕ → ℕ → List Instr
 thread_of bytes t = get_or (job_of bytes).threads t []
+
+abbrev pub code : Thread → List Instr
+code w = thread_of w.job.now.bytes.now w.number
 
 -- a word has a bit for each place that has an instruction
 pub short : (bytes : List ℕ) (t : ℕ) → JobIn (job_of bytes) → length (thread_of bytes t) ≤ width

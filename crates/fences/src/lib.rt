@@ -4,30 +4,18 @@
 ghost use Rattle.std.specs.Prelude.{◌≡◌, ◌<◌, ◌↔◌, IsTrue, length};
 ghost use Rattle.rules.specs.File.{job_of};
 ghost use Rattle.rules.specs.Fences as rules;
-ghost use Rattle.job.specs.Laid.{IsAccepted};
-ghost use Rattle.fences.specs.Meaning.{words, FenceFor, FencePromise};
-ghost use Rattle.fences.specs.Places.{thread_of, Onwards, Joined, Grown, Met, LeastBelow, MetLoad, FromPlaceZero, LiveBy, LiveStore, PairMeans};
+ghost use Rattle.fences.specs.Meaning.{answer_words, words, FenceFor, FencePromise};
+ghost use Rattle.fences.specs.Places.{code, Onwards, Joined, Grown, Met, LeastBelow, MetLoad, FromPlaceZero, LiveBy, LiveStore, PairMeans};
 
-use job::{Decoded, Layout, PlaceRead};
+use job::Job;
+use readers::faults::Fault;
 use rules::{Control, Passing, Role};
 
-// What a fence check answers: the refusal's number and offset; no pair is open; the least open pair, its thread, store place and load place.
+// What a fence check of an accepted job answers: no pair is open; the least open pair, its thread, store place and load place.
 #[derive(Clone, Copy)]
 pub enum Answer {
-    Refused(u8, usize),
     Fenced,
     Open(u8, u8, u8),
-}
-
-// What the instruction at place p of thread t is to the check; past the thread's end there is none.
-fn role_at(job: &[u8], l: Layout, t: u8, p: u8) -> Role
-    requires { IsAccepted job.now l }
-    ensures { result ≡ rules.role_at (thread_of job.now t) p }
-{
-    match job::parts::instruction_at(job, l, t, p) {
-        PlaceRead::Holds(i) => kinds::role_of(i),
-        PlaceRead::Ended => Role::Other,
-    }
 }
 
 // Whether a walk may pass an instruction.
@@ -40,11 +28,18 @@ fn passes(by: Passing, own: Role) -> bool
     }
 }
 
+// Which walks are meant: where they begin, and what they may pass behind it.
+#[derive(Clone, Copy)]
+struct Walks {
+    first: u8,
+    by: Passing,
+}
+
 // Whether a walk goes on from place p: it is the first itself, or was met and may be passed.
-fn goes_on(by: Passing, met: u64, first: u8, p: u8, own: Role) -> bool
-    ensures { IsTrue result ↔ Onwards by met first p own }
+fn goes_on(walks: Walks, met: u64, p: u8, own: Role) -> bool
+    ensures { IsTrue result ↔ Onwards walks.by met walks.first p own }
 {
-    p == first || passes(by, own) && bits::has(met, p)
+    p == walks.first || passes(walks.by, own) && bits::has(met, p)
 }
 
 // The places met, and the successors of place p.
@@ -62,62 +57,6 @@ fn with_successors(met: u64, p: u8, control: Control) -> u64
     }
 }
 
-// One look at place p.
-fn onward_from(job: &[u8], l: Layout, t: u8, by: Passing, first: u8, p: u8, met: u64) -> u64
-    requires accepted { IsAccepted job.now l }
-    requires next_fits { p < 255 }
-    ensures { Grown by (thread_of job.now t) first (λ q. q ≡ p) met result }
-{
-    match job::parts::instruction_at(job, l, t, p) {
-        PlaceRead::Holds(i) if goes_on(by, met, first, p, kinds::role_of(i)) => {
-            with_successors(met, p, kinds::control_of(i))
-        }
-        _ => met,
-    }
-}
-
-// One look at each place of the thread.
-fn look(job: &[u8], l: Layout, t: u8, by: Passing, first: u8, earlier: u64) -> u64
-    requires { IsAccepted job.now l }
-    ensures { Grown by (thread_of job.now t) first (λ q. q < length (thread_of job.now t)) earlier result }
-{
-    let mut met = earlier;
-    for p in 0..job::parts::code_length(job, l, t) {
-        met = onward_from(job, l, t, by, first, p, met);
-    }
-    met
-}
-
-// All places to which a walk leads from the first: looks, until one finds nothing new.
-fn places_met(job: &[u8], l: Layout, t: u8, by: Passing, first: u8) -> u64
-    requires { IsAccepted job.now l }
-    ensures { Met by (thread_of job.now t) first result }
-{
-    let mut earlier: u64 = 0;
-    let mut met = look(job, l, t, by, first, 0);
-    'looks: while earlier < met {
-        earlier = met;
-        met = look(job, l, t, by, first, met);
-    }
-    met
-}
-
-// Whether a load stands at place p, and was met.
-fn is_met_load(job: &[u8], l: Layout, t: u8, met: u64, p: u8) -> bool
-    requires { IsAccepted job.now l }
-    ensures { IsTrue result ↔ MetLoad (thread_of job.now t) met p }
-{
-    matches!(role_at(job, l, t, p), Role::Loads) && bits::has(met, p)
-}
-
-// The least load among the places met.
-fn least_load(job: &[u8], l: Layout, t: u8, met: u64) -> Option<u8>
-    requires { IsAccepted job.now l }
-    ensures { LeastBelow (MetLoad (thread_of job.now t) met) (length (thread_of job.now t)) result }
-{
-    (0..job::parts::code_length(job, l, t)).find(|p| is_met_load(job, l, t, met, *p))
-}
-
 // Whether place p can be reached by moves from place 0, where `live` has the places to which walks from there lead.
 fn is_live(live: u64, p: u8) -> bool
     ensures { IsTrue result ↔ LiveBy live p }
@@ -125,60 +64,137 @@ fn is_live(live: u64, p: u8) -> bool
     p == 0 || bits::has(live, p)
 }
 
-// Whether a store that counts stands at place p.
-fn is_live_store(job: &[u8], l: Layout, t: u8, live: u64, p: u8) -> bool
-    requires { IsAccepted job.now l }
-    ensures { IsTrue result ↔ LiveStore (thread_of job.now t) live p }
-{
-    matches!(role_at(job, l, t, p), Role::Stores) && is_live(live, p)
+// A thread of an accepted job, by its number.
+#[derive(Clone, Copy)]
+struct Thread<'a> {
+    job: &'a Job<'a>,
+    number: u8,
 }
 
-// The least load that is open with the store place.
-fn open_load(job: &[u8], l: Layout, t: u8, live: u64, store: u8) -> Option<u8>
-    requires accepted { IsAccepted job.now l }
-    requires from_place_zero { FromPlaceZero (thread_of job.now t) live }
-    ensures { LeastBelow (rules.OpenIn (thread_of job.now t) store) (length (thread_of job.now t)) result }
-{
-    if !is_live_store(job, l, t, live, store) {
-        return None;
+impl<'a> Thread<'a> {
+    fn length(&self) -> u8
+        ensures { result ≡ length (code self.now) }
+    {
+        self.job.code_length(self.number)
     }
-    let met = places_met(job, l, t, Passing::NoFence, store);
-    least_load(job, l, t, met)
-}
 
-// The least open pair of thread t: its store place and its load place.
-fn least_pair(job: &[u8], l: Layout, t: u8) -> Option<(u8, u8)>
-    requires { IsAccepted job.now l }
-    ensures { PairMeans (thread_of job.now t) result }
-{
-    let live = places_met(job, l, t, Passing::Anything, 0);
-    for store in 0..job::parts::code_length(job, l, t) {
-        if let Some(load) = open_load(job, l, t, live, store) {
-            return Some((store, load));
+    // What the instruction at place p is to the check; past the thread's end there is none.
+    fn role_at(&self, p: u8) -> Role
+        ensures { result ≡ rules.role_at (code self.now) p }
+    {
+        match self.job.instruction_at(self.number, p) {
+            Some(i) => kinds::role_of(i),
+            None => Role::Other,
         }
     }
-    None
+
+    // One look at place p.
+    fn onward_from(&self, walks: Walks, p: u8, met: u64) -> u64
+        requires { p < 255 }
+        ensures { Grown walks.by (code self.now) walks.first (λ q. q ≡ p) met result }
+    {
+        match self.job.instruction_at(self.number, p) {
+            Some(i) if goes_on(walks, met, p, kinds::role_of(i)) => {
+                with_successors(met, p, kinds::control_of(i))
+            }
+            _ => met,
+        }
+    }
+
+    // One look at each place of the thread.
+    fn look(&self, walks: Walks, earlier: u64) -> u64
+        ensures { Grown walks.by (code self.now) walks.first (λ q. q < length (code self.now)) earlier result }
+    {
+        let mut met = earlier;
+        for p in 0..self.length() {
+            met = self.onward_from(walks, p, met);
+        }
+        met
+    }
+
+    // All places to which one of the walks leads: looks, until one finds nothing new.
+    fn places_met(&self, walks: Walks) -> u64
+        ensures { Met walks.by (code self.now) walks.first result }
+    {
+        let mut earlier: u64 = 0;
+        let mut met = self.look(walks, 0);
+        'looks: while earlier < met {
+            earlier = met;
+            met = self.look(walks, met);
+        }
+        met
+    }
+
+    // Whether a load stands at place p, and was met.
+    fn is_met_load(&self, met: u64, p: u8) -> bool
+        ensures { IsTrue result ↔ MetLoad (code self.now) met p }
+    {
+        matches!(self.role_at(p), Role::Loads) && bits::has(met, p)
+    }
+
+    // The least load among the places met.
+    fn least_load(&self, met: u64) -> Option<u8>
+        ensures { LeastBelow (MetLoad (code self.now) met) (length (code self.now)) result }
+    {
+        (0..self.length()).find(|p| self.is_met_load(met, *p))
+    }
+
+    // Whether a store that counts stands at place p.
+    fn is_live_store(&self, live: u64, p: u8) -> bool
+        ensures { IsTrue result ↔ LiveStore (code self.now) live p }
+    {
+        matches!(self.role_at(p), Role::Stores) && is_live(live, p)
+    }
+
+    // The least load that is open with the store place.
+    fn open_load(&self, live: u64, store: u8) -> Option<u8>
+        requires { FromPlaceZero (code self.now) live }
+        ensures { LeastBelow (rules.OpenIn (code self.now) store) (length (code self.now)) result }
+    {
+        if !self.is_live_store(live, store) {
+            return None;
+        }
+        let met = self.places_met(Walks {
+            first: store,
+            by: Passing::NoFence,
+        });
+        self.least_load(met)
+    }
+
+    // The least open pair of the thread: its store place and its load place.
+    fn least_pair(&self) -> Option<(u8, u8)>
+        ensures { PairMeans (code self.now) result }
+    {
+        let live = self.places_met(Walks {
+            first: 0,
+            by: Passing::Anything,
+        });
+        for store in 0..self.length() {
+            if let Some(load) = self.open_load(live, store) {
+                return Some((store, load));
+            }
+        }
+        None
+    }
 }
 
 // The fence check of an accepted job, thread by thread.
-fn check_accepted(job: &[u8], l: Layout) -> Answer
-    requires { IsAccepted job.now l }
-    ensures { FenceFor (job_of job.now).threads (words result) }
+fn check_accepted(job: &Job) -> Answer
+    ensures { FenceFor (job_of job.now.bytes.now).threads (answer_words result) }
 {
-    for t in 0..l.threads {
-        if let Some((store, load)) = least_pair(job, l, t) {
-            return Answer::Open(t, store, load);
+    for number in 0..job.layout.threads {
+        let thread = Thread { job: &*job, number };
+        if let Some((store, load)) = thread.least_pair() {
+            return Answer::Open(number, store, load);
         }
     }
     Answer::Fenced
 }
 
 // The fence check: any bytes as a job, always an answer.
-pub fn fences(job: &[u8]) -> Answer
+pub fn fences(job: &[u8]) -> Result<Answer, Fault>
     ensures { FencePromise job.now (words result) }
 {
-    match job::decode(job) {
-        Decoded::Accepted(model) => check_accepted(job, job::layout_of(job, model)),
-        Decoded::Refused(number, offset) => Answer::Refused(number, offset),
-    }
+    let accepted = job::read(job)?;
+    Ok(check_accepted(&accepted))
 }

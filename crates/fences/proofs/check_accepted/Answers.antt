@@ -8,17 +8,17 @@ returns-in-Some c =
     record {
       checked = open_at _ _ _;
       means =
-          least_of_all _ _ _ _ (omega (arith, c.requires.laid.threads, c.loop-t-test.true)) c.loop-t.invariant c.in-Some.ensures;
+          least_of_all _ _ _ _ (omega (arith, c.args.job.now.laid.threads, c.loop-number-test.true)) c.loop-number.invariant c.in-Some.ensures;
       answer = refl;
     }
 
-pub loop-t-preserved : goal.loop-t-preserved
-loop-t-preserved c = below_more (λ n. NoneIn (thread_of _ n)) _ c.loop-t.invariant c.in_default.ensures
+pub loop-number-preserved : goal.loop-number-preserved
+loop-number-preserved c = below_more (λ n. NoneIn (thread_of _ n)) _ c.loop-number.invariant c.in_default.ensures
 
 pub returns : goal.returns
 returns c =
     record {
       checked = fenced;
-      means = none_at_all _ (λ n l. c.loop-t.invariant n (omega (arith, c.requires.laid.threads, c.loop-t-test.false)));
+      means = none_at_all _ (λ n l. c.loop-number.invariant n (omega (arith, c.args.job.now.laid.threads, c.loop-number-test.false)));
       answer = refl;
     }

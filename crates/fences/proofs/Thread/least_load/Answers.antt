@@ -1,8 +1,8 @@
--- `fences::least_load` meets its contract: the first place of the thread where a load that was met stands.
+-- `fences::Thread::least_load` meets its contract: the first place of the thread where a load that was met stands.
 use Rattle.std.proofs.Common.{◌≡◌, refl, ℕ, ◌≤◌, ◌<◌, Option, None, Some, MatchOption, rules, tests, arith}
 use Rattle.std.proofs.lemmas.Iterator.{first_from_Range}
-use Rattle.fences.specs.Places.{thread_of, LeastBelow, MetLoad}
-use Rattle.fences.proofs.least_load.Goals as goal
+use Rattle.fences.specs.Places.{code, LeastBelow, MetLoad}
+use Rattle.fences.proofs.Thread.least_load.Goals as goal
 
 -- what `find` says of a range from 0
 least_from_first :
@@ -15,6 +15,6 @@ least_from_first P n s e is_start is_end (Some r) first =
 
 pub returns : goal.returns
 returns c =
-    let Yes : ℕ → Type 0 = MetLoad (thread_of c.args.job.now c.args.t) c.args.met in
-    least_from_first _ _ _ _ refl c.code_length.ensures _
+    let Yes : ℕ → Type 0 = MetLoad (code c.args.self.now) c.args.met in
+    least_from_first _ _ _ _ refl c.length.ensures _
     (first_from_Range _ _ _ c.find.result Yes (λ p. ¬ (Yes p)) c.find.ensures.ran (λ x q k. search (rules, tests)) (λ x q k. search (rules, tests)))

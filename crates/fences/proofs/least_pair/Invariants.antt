@@ -1,7 +1,0 @@
--- `fences::least_pair` meets its contract: no store place before has an open load.
-use Prim.Native.Nat.{ℕ, ◌<◌}
-use Rattle.fences.specs.Places.{thread_of, NoneAt}
-use Rattle.fences.proofs.least_pair.Given as goal
-
-abbrev pub invariant-loop-store : goal.invariant-loop-store
-invariant-loop-store l = (s : ℕ) → s < l.store → NoneAt (thread_of l.job l.t) s
