@@ -1,5 +1,5 @@
 -- What a search answers, and what the three lent buffers then hold, for every input: 01, "Search" and "Refusal numbers and their order".
-use Rattle.std.specs.Prelude.{◌≡◌, refl, List, [], ◌∷◌, ℕ, ◌/◌, min, length, get_or}
+use Rattle.std.specs.Prelude.{◌≡◌, refl, List, [], ◌∷◌, ℕ, ◌/◌, min, length, get_or, Result, Ok, Err}
 use Rattle.std.proofs.Common.{sym, ◌∙◌, ap}
 use Rattle.reach.specs.Meaning.{reachable, unreachable, unknown}
 use Rattle.reach.specs.Words.{refusal_words, answer_words}
@@ -9,14 +9,19 @@ use Rattle.rules.specs.File.{Decoded, accepted, refused, decode}
 use Rattle.rules.specs.Slot.{slot_bytes}
 use Rattle.rules.specs.Machine.{machine}
 use Rattle.search.specs.declared.Answer.{Answer}
-use Rattle.search.specs.declared.Answer.TheVariants.{Refused, Reachable, Unreachable, Unknown}
+use Rattle.search.specs.declared.Answer.TheVariants.{Reachable, Unreachable, Unknown}
+use Rattle.readers.specs.Refusals.{number_of, refusal_by, refusal_numbered}
+use Rattle.readers.specs.declared.faults.Fault.{Fault}
 
 -- each case of the answer as four words: its number here, and its values as 01 names them
-abbrev pub words : Answer → List ℕ
-words (Refused number offset) = refusal_words number offset
-words (Reachable d states) = answer_words (reachable d states)
-words (Unreachable states) = answer_words (unreachable states)
-words (Unknown slots) = answer_words (unknown slots)
+abbrev pub found_words : Answer → List ℕ
+found_words (Reachable d states) = answer_words (reachable d states)
+found_words (Unreachable states) = answer_words (unreachable states)
+found_words (Unknown slots) = answer_words (unknown slots)
+
+abbrev pub words : Result Answer Fault → List ℕ
+words (Err f) = refusal_words (number_of f.refusal) f.offset
+words (Ok a) = found_words a
 
 -- "N is the smallest of table bytes / 152 rounded down, links, schedule bytes, and 65,536"
 abbrev pub slots_of : Lent → ℕ
@@ -48,18 +53,18 @@ pub record IndexedPromise (bytes : List ℕ) (m : Lent) (index : List ℕ) (ws :
   pub unchanged : (number offset : ℕ) → ws ≡ refusal_words number offset → index' ≡ index
 
 -- The words tell the answers apart: from the words back to the case.
-case_of : List ℕ → Answer
+case_of : List ℕ → Result Answer Fault
 case_of ws =
     let x = get_or ws 1 0 in
     let y = get_or ws 2 0 in
-    get_or (Refused x y ∷ Reachable x y ∷ Unreachable x ∷ []) (get_or ws 0 0) (Unknown x)
+    get_or (Err (record { refusal = refusal_by x; offset = y }) ∷ Ok (Reachable x y) ∷ Ok (Unreachable x) ∷ []) (get_or ws 0 0) (Ok (Unknown x))
 
-case_back : (a : Answer) → case_of (words a) ≡ a
+case_back : (a : Result Answer Fault) → case_of (words a) ≡ a
 unfolding case_of
-case_back (Refused number offset) = refl
-case_back (Reachable d states) = refl
-case_back (Unreachable states) = refl
-case_back (Unknown slots) = refl
+case_back (Err f) = ap (λ r. Err (record { refusal = r; offset = f.offset })) (refusal_numbered f.refusal)
+case_back (Ok (Reachable d states)) = refl
+case_back (Ok (Unreachable states)) = refl
+case_back (Ok (Unknown slots)) = refl
 
-pub same_answer : (a b : Answer) → words a ≡ words b → a ≡ b
+pub same_answer : (a b : Result Answer Fault) → words a ≡ words b → a ≡ b
 same_answer a b e = sym (case_back a) ∙ ap case_of e ∙ case_back b

@@ -1,5 +1,5 @@
 -- Worked values of N, of refusal 7 and of the words: 01, "Search" and "Refusal numbers and their order"; the slot in pieces: request 3.
-use Rattle.std.specs.Prelude.{◌≡◌, refl, List, [], ◌∷◌, ℕ, ◌%◌, ◌≤◌, length}
+use Rattle.std.specs.Prelude.{◌≡◌, refl, List, [], ◌∷◌, ℕ, ◌%◌, ◌≤◌, length, Ok, Err}
 use Rattle.std.proofs.Common.{subst, arith}
 use Rattle.reach.specs.Lists.{All}
 use Rattle.span.specs.Pieces.{piece_size}
@@ -13,7 +13,8 @@ use Rattle.rules.specs.Worked.{table}
 use Rattle.rules.proofs.Worked.{worked}
 use Rattle.lent.specs.Meaning.{Lent, slots_lent, AnsweredWith}
 use Rattle.search.specs.Meaning.{words, slots_of, slots_indexed, SearchIn, SearchedIn, IndexedPromise}
-use Rattle.search.specs.declared.Answer.TheVariants.{Refused, Reachable, Unreachable, Unknown}
+use Rattle.search.specs.declared.Answer.TheVariants.{Reachable, Unreachable, Unknown}
+use Rattle.readers.specs.declared.faults.Refusal.TheVariants.{ThreadBad}
 
 -- lent memory by its lengths: table bytes, links, schedule bytes; and the N that it makes up
 pub record Room : Type 0 where
@@ -149,8 +150,8 @@ refused_index bytes number offset is m m' index index' ws h =
 
 -- the words of each case: its number, and its values in their order
 pub words_are :
-    (words (Refused 4 10) ≡ 0 ∷ 4 ∷ 10 ∷ 0 ∷ [])
-    × (words (Reachable 4 22) ≡ 1 ∷ 4 ∷ 22 ∷ 0 ∷ [])
-    × (words (Unreachable 13) ≡ 2 ∷ 13 ∷ 0 ∷ 0 ∷ [])
-    × (words (Unknown 400) ≡ 3 ∷ 400 ∷ 0 ∷ 0 ∷ [])
+    (words (Err (record { refusal = ThreadBad; offset = 10 })) ≡ 0 ∷ 4 ∷ 10 ∷ 0 ∷ [])
+    × (words (Ok (Reachable 4 22)) ≡ 1 ∷ 4 ∷ 22 ∷ 0 ∷ [])
+    × (words (Ok (Unreachable 13)) ≡ 2 ∷ 13 ∷ 0 ∷ 0 ∷ [])
+    × (words (Ok (Unknown 400)) ≡ 3 ∷ 400 ∷ 0 ∷ 0 ∷ [])
 words_are = (refl, refl, refl, refl)

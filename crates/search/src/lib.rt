@@ -15,21 +15,20 @@ ghost use Rattle.rules.specs.File.{job_of};
 ghost use Rattle.rules.specs.Slot.{slot_bytes};
 ghost use Rattle.rules.specs.Step.{may, after};
 ghost use Rattle.rules.specs.Machine.{machine};
-ghost use Rattle.job.specs.Laid.{IsAccepted};
 ghost use Rattle.state.specs.Held.{held};
 ghost use Rattle.engine.specs.At.{At};
-ghost use Rattle.search.specs.Meaning.{words, SearchPromise};
+ghost use Rattle.search.specs.Meaning.{found_words, words, SearchPromise};
 ghost use Rattle.search.specs.Coded.{coding};
 ghost use Rattle.search.specs.Whole.{ExpandDone, Counted, HasRoom};
 
-use job::{Decoded, Layout};
+use job::Job;
+use readers::faults::{Fault, Refusal};
 use shelf::Front;
 use state::State;
 
-// What a search answers: the refusal's number and offset; d and R(d); the number of states; N.
+// What a search of an accepted job answers: d and R(d); the number of states; N.
 #[derive(Clone, Copy)]
 pub enum Answer {
-    Refused(u8, usize),
     Reachable(usize, usize),
     Unreachable(usize),
     Unknown(usize),
@@ -46,17 +45,16 @@ fn put_next(
     q: usize,
     s: u8,
     x: State,
-    job: &[u8],
-    l: Layout,
+    job: &Job,
 ) -> Front
     requires fits { Fits slot_size slots table.old links.old index.old width front }
     requires slot_in_range { q < most_slots }
-    requires at { At job.now l x }
-    requires may_be_taken { may (job_of job.now) s (held x) ≡ Ok tt }
+    requires at { At job.now.bytes.now x }
+    requires may_be_taken { may (job_of job.now.bytes.now) s (held x) ≡ Ok tt }
     ensures { PutDone slot_size slots table.old links.old front
-        (slot_bytes (after (job_of job.now) s (held x))) (link q s) table.new links.new index.new width result }
+        (slot_bytes (after (job_of job.now.bytes.now) s (held x))) (link q s) table.new links.new index.new width result }
 {
-    let y = engine::take(job, l, x, s);
+    let y = engine::take(job, x, s);
     let link = 64 * (q as u32) + u32::from(s);
     // Each way lays the state out for itself: without an index its pieces are then held in registers, which a look-up by chains does not allow.
     if width == 0 {
@@ -76,25 +74,23 @@ fn expand(
     front: Front,
     slots: usize,
     q: usize,
-    job: &[u8],
-    l: Layout,
+    job: &Job,
 ) -> Front
     requires fits { Fits slot_size slots table.old links.old index.old width front }
     requires counted { q < front.count }
     requires most { slots ≤ most_slots }
-    requires accepted { IsAccepted job.now l }
-    requires stands { Stands (coding (job_of job.now)) table.old q }
-    ensures { ExpandDone (job_of job.now) slots q table.old links.old front table.new links.new
+    requires stands { Stands (coding (job_of job.now.bytes.now)) table.old q }
+    ensures { ExpandDone (job_of job.now.bytes.now) slots q table.old links.old front table.new links.new
         index.new width result }
 {
     let x = slot::read_slot(table, q);
-    let mask = engine::enabled(job, l, x);
+    let mask = engine::enabled(job, x);
     let mut left = mask;
     let mut at = front;
     for _tried in 0..bits::count(mask) {
         let s = bits::lowest(left);
         left = bits::without_lowest(left);
-        at = put_next(table, links, index, width, at, slots, q, s, x, job, l);
+        at = put_next(table, links, index, width, at, slots, q, s, x, job);
         if at.full {
             return at;
         }
@@ -103,16 +99,15 @@ fn expand(
 }
 
 // The first slot from lo on that holds a goal.
-fn find_goal(table: &[u8], lo: usize, count: usize, job: &[u8], l: Layout) -> Option<usize>
+fn find_goal(table: &[u8], lo: usize, count: usize, job: &Job) -> Option<usize>
     requires in_order { lo ≤ count }
     requires in_table { slot_size * count ≤ length table.now }
-    requires accepted { IsAccepted job.now l }
-    requires stand { (i : ℕ) → i < count → Stands (coding (job_of job.now)) table.now i }
-    ensures { MatchOption result (FirstGoal (coding (job_of job.now)) table.now lo count count)
-        (λ g. (g < count) × FirstGoal (coding (job_of job.now)) table.now lo count g) }
+    requires stand { (i : ℕ) → i < count → Stands (coding (job_of job.now.bytes.now)) table.now i }
+    ensures { MatchOption result (FirstGoal (coding (job_of job.now.bytes.now)) table.now lo count count)
+        (λ g. (g < count) × FirstGoal (coding (job_of job.now.bytes.now)) table.now lo count g) }
 {
     for i in lo..count {
-        if engine::goal(job, l, slot::read_slot(table, i)) {
+        if engine::goal(job, slot::read_slot(table, i)) {
             return Some(i);
         }
     }
@@ -127,24 +122,22 @@ fn turns(
     index: &mut [u32],
     width: usize,
     slots: usize,
-    job: &[u8],
-    l: Layout,
+    job: &Job,
 ) -> Answer
-    requires accepted { IsAccepted job.now l }
     requires some_slot { 0 < slots }
     requires most { slots ≤ most_slots }
     requires steps { slots ≤ length schedule.old }
     requires lends { Lends slot_size slots table.old links.old }
     requires ready { Ready slot_size slots table.old index.old width 0 }
-    ensures { IsAnswered (machine (job_of job.now)) slot_size slot_bytes slots
-        (record { table = table.old; links = links.old; schedule = schedule.old }) (words result)
+    ensures { IsAnswered (machine (job_of job.now.bytes.now)) slot_size slot_bytes slots
+        (record { table = table.old; links = links.old; schedule = schedule.old }) (found_words result)
         (record { table = table.new; links = links.new; schedule = schedule.new }) }
 {
     let nothing = Front {
         count: 0,
         full: false,
     };
-    let start = slot::bytes_of(engine::start(job, l));
+    let start = slot::bytes_of(engine::start(job));
     let mut front = shelf::put_first(
         table,
         links,
@@ -159,7 +152,7 @@ fn turns(
     let mut d: usize = 0;
     'turns: loop {
         let count = front.count;
-        if let Some(goal) = find_goal(table, mark, count, job, l) {
+        if let Some(goal) = find_goal(table, mark, count, job) {
             shelf::write_schedule(schedule, links, d, goal);
             return Answer::Reachable(d, count);
         }
@@ -167,7 +160,7 @@ fn turns(
             return Answer::Unreachable(count);
         }
         for next in mark..count {
-            front = expand(table, links, index, width, front, slots, next, job, l);
+            front = expand(table, links, index, width, front, slots, next, job);
             if front.full {
                 return Answer::Unknown(slots);
             }
@@ -195,42 +188,32 @@ fn search_accepted(
     index: &mut [u32],
     width: usize,
     slots: usize,
-    job: &[u8],
-    l: Layout,
-) -> Answer
-    requires accepted { IsAccepted job.now l }
-    requires has_room { HasRoom slots (record { table = table.old; links = links.old; schedule = schedule.old }) index.old width }
-    ensures { AnsweredWith (machine (job_of job.now)) slot_size slot_bytes slots
+    job: &Job,
+) -> Result<Answer, Fault>
+    requires { HasRoom slots (record { table = table.old; links = links.old; schedule = schedule.old }) index.old width }
+    ensures { AnsweredWith (machine (job_of job.now.bytes.now)) slot_size slot_bytes slots
         (record { table = table.old; links = links.old; schedule = schedule.old }) (words result)
         (record { table = table.new; links = links.new; schedule = schedule.new })
         × (slots ≡ 0 → index.new ≡ index.old) }
 {
     if slots == 0 {
-        return Answer::Refused(7, 0);
+        return Err(Refusal::NoSlots.at(0));
     }
     chains::clear(index, width);
-    turns(table, links, schedule, index, width, slots, job, l)
+    Ok(turns(table, links, schedule, index, width, slots, job))
 }
 
 // The search: any bytes as a job, any lent memory, always an answer.
-pub fn search(table: &mut [u8], links: &mut [u32], schedule: &mut [u8], job: &[u8]) -> Answer
+pub fn search(
+    table: &mut [u8],
+    links: &mut [u32],
+    schedule: &mut [u8],
+    job: &[u8],
+) -> Result<Answer, Fault>
     ensures { SearchPromise job.now (record { table = table.old; links = links.old; schedule = schedule.old })
         (words result) (record { table = table.new; links = links.new; schedule = schedule.new }) }
 {
-    match job::decode(job) {
-        Decoded::Accepted(model) => {
-            let slots = slots_lent(table, links, schedule);
-            search_accepted(
-                table,
-                links,
-                schedule,
-                &mut [],
-                0,
-                slots,
-                job,
-                job::layout_of(job, model),
-            )
-        }
-        Decoded::Refused(number, offset) => Answer::Refused(number, offset),
-    }
+    let accepted = job::read(job)?;
+    let slots = slots_lent(table, links, schedule);
+    search_accepted(table, links, schedule, &mut [], 0, slots, &accepted)
 }

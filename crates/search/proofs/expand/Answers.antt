@@ -6,8 +6,8 @@ use Rattle.search.proofs.expand.Goals as goal
 use Rattle.search.proofs.expand.Goals.{After-read_slot-x, In-loop-tried}
 
 -- the state that was read is one of the job's machine
-at_slot : (c : After-read_slot-x) → At c.args.job.now c.args.l c.read_slot-x.result
-at_slot c = read_at _ _ c.requires.accepted _ _ c.requires.stands _ c.read_slot-x.ensures
+at_slot : (c : After-read_slot-x) → At c.args.job.now.bytes.now c.read_slot-x.result
+at_slot c = read_at _ c.args.job.now.in_range _ _ c.requires.stands _ c.read_slot-x.ensures
 
 -- some step is left while not all were tried
 left_over : (c : In-loop-tried) → 0 < c.loop-tried.left
@@ -35,7 +35,7 @@ returns-then-at c =
       few = c.put_next-at.ensures.few;
       ready = c.put_next-at.ensures.ready;
       expanded =
-          expanded _ _ _ _ _ _ (λ at. read_is _ _ c.requires.accepted _ _ at _ c.read_slot-x.ensures) (walked_full _ _ _ _ _ _ _ _ _ walking c.if-at.true);
+          expanded _ _ _ _ _ _ (λ at. read_is _ c.args.job.now.in_range _ _ at _ c.read_slot-x.ensures) (walked_full _ _ _ _ _ _ _ _ _ walking c.if-at.true);
     }
 
 pub loop-tried-preserved : goal.loop-tried-preserved
@@ -52,5 +52,5 @@ returns c =
       few = c.loop-tried.invariant.1.few;
       ready = c.loop-tried.invariant.1.ready;
       expanded =
-          expanded _ _ _ _ _ _ (λ at. read_is _ _ c.requires.accepted _ _ at _ c.read_slot-x.ensures) (walked _ _ _ _ _ _ _ _ _ c.loop-tried.invariant.0 c.loop-tried-test.false);
+          expanded _ _ _ _ _ _ (λ at. read_is _ c.args.job.now.in_range _ _ at _ c.read_slot-x.ensures) (walked _ _ _ _ _ _ _ _ _ c.loop-tried.invariant.0 c.loop-tried-test.false);
     }

@@ -9,13 +9,13 @@ use Rattle.search.proofs.find_goal.Goals as goal
 use Rattle.search.proofs.find_goal.Goals.{After-goal}
 
 pub goal-requires : goal.goal-requires
-goal-requires c = read_at _ _ c.requires.accepted _ _ (c.requires.stand _ c.loop-i-test.true) _ c.read_slot.ensures
+goal-requires c = read_at _ c.args.job.now.in_range _ _ (c.requires.stand _ c.loop-i-test.true) _ c.read_slot.ensures
 
 -- the test is that of the state which stands there
 tested :
-    (c : After-goal) → (at : Stands (coding (job_of c.args.job.now)) c.args.table.now c.loop-i.i) →
-    goal (job_of c.args.job.now) at.state ≡ c.goal.result
-tested c at = sym (c.goal.ensures ∙ ap (goal _) (read_is _ _ c.requires.accepted _ _ at _ c.read_slot.ensures))
+    (c : After-goal) → (at : Stands (coding (job_of c.args.job.now.bytes.now)) c.args.table.now c.loop-i.i) →
+    goal (job_of c.args.job.now.bytes.now) at.state ≡ c.goal.result
+tested c at = sym (c.goal.ensures ∙ ap (goal _) (read_is _ c.args.job.now.in_range _ _ at _ c.read_slot.ensures))
 
 pub returns-then-goal : goal.returns-then-goal
 returns-then-goal c =

@@ -5,4 +5,4 @@ use Rattle.search.specs.Coded.{coding}
 use Rattle.search.proofs.find_goal.Given as goal
 
 abbrev pub invariant-loop-i : goal.invariant-loop-i
-invariant-loop-i l = Looking (coding (job_of l.job)) l.table l.lo l.count l.i
+invariant-loop-i l = Looking (coding (job_of l.job.bytes.now)) l.table l.lo l.count l.i

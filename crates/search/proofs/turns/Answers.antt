@@ -25,7 +25,7 @@ put_first-front-requires c =
 pub turns-init : goal.turns-init
 turns-init c =
     let done = put_laid _ _ _ _ _ _ _ (laid_out _ _ c.start.ensures _ c.bytes_of-start.ensures) _ _ _ _ _ c.put_first-front.ensures in (
-      searching_start _ (faithful _ c.requires.accepted.in_range) _ (lent (goal.at.turns-init c).Start) c.requires.lends c.requires.some_slot _
+      searching_start _ (faithful _ c.args.job.now.in_range) _ (lent (goal.at.turns-init c).Start) c.requires.lends c.requires.some_slot _
           (put_first _ _ _ _ _ _ refl refl c.requires.some_slot done.put),
       refl,
       done.ready,
@@ -35,24 +35,24 @@ pub write_schedule-requires : goal.write_schedule-requires
 write_schedule-requires c =
     let s = c.turns.invariant.0 in (
       omega (arith, s.deep, s.counted, s.holds.few, c.requires.steps, ap length c.turns.invariant.1),
-      goal_walkable _ (faithful _ c.requires.accepted.in_range) _ (lent (goal.at.write_schedule-requires c).Start) c.requires.lends _ _ _ (s.whole (omega arith)) _ c.in-Some.ensures.1 c.in-Some.ensures.0,
+      goal_walkable _ (faithful _ c.args.job.now.in_range) _ (lent (goal.at.write_schedule-requires c).Start) c.requires.lends _ _ _ (s.whole (omega arith)) _ c.in-Some.ensures.1 c.in-Some.ensures.0,
     )
 
 pub returns-in-Some : goal.returns-in-Some
 returns-in-Some c =
     let loop = c.turns in
     let written = ap (λ (z : List ℕ). walk_back loop.links loop.d c.in-Some.goal ++ drop loop.d z) loop.invariant.1 in
-    answered_reachable _ (faithful _ c.requires.accepted.in_range) _ (lent (goal.at.returns-in-Some c).Start) c.requires.lends _ _ _ (loop.invariant.0.whole (omega arith)) _ c.in-Some.ensures.1 c.in-Some.ensures.0 _
+    answered_reachable _ (faithful _ c.args.job.now.in_range) _ (lent (goal.at.returns-in-Some c).Start) c.requires.lends _ _ _ (loop.invariant.0.whole (omega arith)) _ c.in-Some.ensures.1 c.in-Some.ensures.0 _
     (c.write_schedule.ensures ∙ written)
 
 pub returns-then-count-mark : goal.returns-then-count-mark
 returns-then-count-mark c =
     rw c.turns.invariant.1
-    (answered_unreachable _ (faithful _ c.requires.accepted.in_range) _ (lent (goal.at.returns-then-count-mark c).Start) c.requires.lends _ _ _ (c.turns.invariant.0.whole (omega arith)) _ c.in_default.ensures (omega arith) c.if-count-mark.true)
+    (answered_unreachable _ (faithful _ c.args.job.now.in_range) _ (lent (goal.at.returns-then-count-mark c).Start) c.requires.lends _ _ _ (c.turns.invariant.0.whole (omega arith)) _ c.in_default.ensures (omega arith) c.if-count-mark.true)
 
 pub loop-next-init : goal.loop-next-init
 loop-next-init c = (
-  searching_level _ (faithful _ c.requires.accepted.in_range) _ (lent (goal.at.loop-next-init c).Start) c.requires.lends _ _ _ _ c.turns.invariant.0 (omega arith) _ c.in_default.ensures (omega arith) c.if-count-mark.false,
+  searching_level _ (faithful _ c.args.job.now.in_range) _ (lent (goal.at.loop-next-init c).Start) c.requires.lends _ _ _ _ c.turns.invariant.0 (omega arith) _ c.in_default.ensures (omega arith) c.if-count-mark.false,
   c.turns.invariant.1,
   c.turns.invariant.2,
 )
@@ -60,11 +60,11 @@ loop-next-init c = (
 pub returns-then-front : goal.returns-then-front
 returns-then-front c =
     rw c.loop-next.invariant.1
-    (answered_unknown _ (faithful _ c.requires.accepted.in_range) _ (lent (goal.at.returns-then-front c).Start) c.requires.lends _ _ _ _ (c.loop-next.invariant.0.growing (omega arith)) (omega arith) _ c.expand-front.ensures.expanded c.if-front.true)
+    (answered_unknown _ (faithful _ c.args.job.now.in_range) _ (lent (goal.at.returns-then-front c).Start) c.requires.lends _ _ _ _ (c.loop-next.invariant.0.growing (omega arith)) (omega arith) _ c.expand-front.ensures.expanded c.if-front.true)
 
 pub loop-next-preserved : goal.loop-next-preserved
 loop-next-preserved c = (
-  searching_state _ (faithful _ c.requires.accepted.in_range) _ (lent (goal.at.loop-next-preserved c).Start) c.requires.lends _ _ _ _ c.loop-next.invariant.0 (omega arith) _ c.expand-front.ensures.expanded c.if-front.false,
+  searching_state _ (faithful _ c.args.job.now.in_range) _ (lent (goal.at.loop-next-preserved c).Start) c.requires.lends _ _ _ _ c.loop-next.invariant.0 (omega arith) _ c.expand-front.ensures.expanded c.if-front.false,
   c.loop-next.invariant.1,
   c.expand-front.ensures.ready,
 )

@@ -9,7 +9,7 @@ use Rattle.search.specs.Coded.{coding}
 use Rattle.search.proofs.turns.Given as goal
 
 abbrev pub invariant-turns : goal.invariant-turns
-invariant-turns l = Searching (coding (job_of l.job)) l.slots l.fn.table l.fn.links l.d l.mark l.mark (memory l.table l.links l.front)
+invariant-turns l = Searching (coding (job_of l.job.bytes.now)) l.slots l.fn.table l.fn.links l.d l.mark l.mark (memory l.table l.links l.front)
     × (l.schedule ≡ l.fn.schedule)
     × Ready slot_size l.slots l.table l.index l.width l.front.count
 
@@ -17,6 +17,6 @@ abbrev pub decreases-turns : goal.decreases-turns
 decreases-turns l = l.slots - l.mark
 
 abbrev pub invariant-loop-next : goal.invariant-loop-next
-invariant-loop-next l = Searching (coding (job_of l.job)) l.slots l.fn.table l.fn.links (l.d + 1) l.count l.next (memory l.table l.links l.front)
+invariant-loop-next l = Searching (coding (job_of l.job.bytes.now)) l.slots l.fn.table l.fn.links (l.d + 1) l.count l.next (memory l.table l.links l.front)
     × (l.schedule ≡ l.fn.schedule)
     × Ready slot_size l.slots l.table l.index l.width l.front.count
