@@ -4,20 +4,20 @@
 ghost use Rattle.std.specs.Prelude.{◌≡◌, true, ◌↔◌};
 ghost use Rattle.rules.specs.File.{job_of};
 ghost use Rattle.rules.specs.Fences.{fenced};
-ghost use Rattle.job.specs.Laid.{IsAccepted};
 ghost use Rattle.search.specs.Meaning as search_meaning;
 ghost use Rattle.fences.specs.Meaning as fences_meaning;
 ghost use Rattle.verdict.specs.Meaning.{ScAsks, MayRelease, VerdictPromise, line_of};
 ghost use Rattle.verdict.specs.Released.{Released};
 
-use job::{Decoded, Layout};
+use job::Job;
+use readers::faults::Fault;
 use rules::Model;
 
 // The answers of the search and of the fence check, and whether they allow the release.
 #[derive(Clone, Copy)]
 pub struct Verdict {
-    pub search: search::Answer,
-    pub fences: fences::Answer,
+    pub search: Result<search::Answer, Fault>,
+    pub fences: Result<fences::Answer, Fault>,
     pub release: bool,
 }
 
@@ -28,34 +28,37 @@ pub fn last_line(release: bool) -> &'static [u8]
     if release { b"RELEASE\n" } else { b"HOLD\n" }
 }
 
-fn is_fenced(checked: fences::Answer) -> bool
+fn is_fenced(checked: Result<fences::Answer, Fault>) -> bool
     ensures { (result ≡ true) ↔ (fences_meaning.words checked ≡ fences_meaning.checked_words fenced) }
 {
-    matches!(checked, fences::Answer::Fenced)
+    matches!(checked, Ok(fences::Answer::Fenced))
 }
 
 // Whether the job's model lets "unreachable" stand for the hardware: SC does so only for goals with empty buffers, and fenced programs.
-fn model_allows(job: &[u8], l: Layout, checked: fences::Answer) -> bool
-    requires { IsAccepted job.now l }
-    ensures { (result ≡ true) ↔ ScAsks (job_of job.now) (fences_meaning.words checked) }
+fn model_allows(job: &Job, checked: Result<fences::Answer, Fault>) -> bool
+    ensures { (result ≡ true) ↔ ScAsks (job_of job.now.bytes.now) (fences_meaning.words checked) }
 {
-    match l.model {
-        Model::Sc => job::parts::flag(job, l) && is_fenced(checked),
+    match job.layout.model {
+        Model::Sc => job.flag() && is_fenced(checked),
         Model::Tso | Model::Pso => true,
     }
 }
 
 // The decision, of any bytes and any two answers.
-fn may_release(job: &[u8], found: search::Answer, checked: fences::Answer) -> bool
+fn may_release(
+    job: &[u8],
+    found: Result<search::Answer, Fault>,
+    checked: Result<fences::Answer, Fault>,
+) -> bool
     ensures { (result ≡ true) ↔ MayRelease job.now (search_meaning.words found) (fences_meaning.words checked) }
 {
-    let search::Answer::Unreachable(_) = found else {
+    let Ok(search::Answer::Unreachable(_)) = found else {
         return false;
     };
-    let Decoded::Accepted(model) = job::decode(job) else {
+    let Ok(accepted) = job::read(job) else {
         return false;
     };
-    model_allows(job, job::layout_of(job, model), checked)
+    model_allows(&accepted, checked)
 }
 
 // The verdict on any bytes with any lent memory.
