@@ -2,42 +2,53 @@
 #![tactic(auto)]
 
 ghost use Rattle.std.specs.Prelude.{◌≡◌};
+ghost use Rattle.reach.specs.Words.{refusal_words};
+ghost use Rattle.readers.specs.Refusals.{number_of};
 ghost use Rattle.search.specs.Meaning as search_meaning;
 ghost use Rattle.replay.specs.Meaning as replay_meaning;
 ghost use Rattle.fences.specs.Meaning as fences_meaning;
 
+use readers::faults::Fault;
+
+// The four words of a refusal.
+fn refused(fault: Fault) -> [u64; 4]
+    ensures { result ≡ refusal_words (number_of fault.refusal) fault.offset }
+{
+    [0, u64::from(fault.refusal), fault.offset as u64, 0]
+}
+
 // The four words of a search's answer.
-fn search_words(a: search::Answer) -> [u64; 4]
+fn search_words(a: Result<search::Answer, Fault>) -> [u64; 4]
     ensures { result ≡ search_meaning.words a }
 {
     match a {
-        search::Answer::Refused(number, offset) => [0, u64::from(number), offset as u64, 0],
-        search::Answer::Reachable(d, states) => [1, d as u64, states as u64, 0],
-        search::Answer::Unreachable(states) => [2, states as u64, 0, 0],
-        search::Answer::Unknown(slots) => [3, slots as u64, 0, 0],
+        Err(fault) => refused(fault),
+        Ok(search::Answer::Reachable(d, states)) => [1, d as u64, states as u64, 0],
+        Ok(search::Answer::Unreachable(states)) => [2, states as u64, 0, 0],
+        Ok(search::Answer::Unknown(slots)) => [3, slots as u64, 0, 0],
     }
 }
 
 // The four words of a replay's answer.
-fn replay_words(a: replay::Answer) -> [u64; 4]
+fn replay_words(a: Result<replay::Answer, Fault>) -> [u64; 4]
     ensures { result ≡ replay_meaning.words a }
 {
     match a {
-        replay::Answer::Refused(number, offset) => [0, u64::from(number), offset as u64, 0],
-        replay::Answer::Reaches => [1, 0, 0, 0],
-        replay::Answer::FallsShort => [2, 0, 0, 0],
-        replay::Answer::Stuck(i, why) => [3, i as u64, reasons::number_of(why), 0],
+        Err(fault) => refused(fault),
+        Ok(replay::Answer::Reaches) => [1, 0, 0, 0],
+        Ok(replay::Answer::FallsShort) => [2, 0, 0, 0],
+        Ok(replay::Answer::Stuck(i, why)) => [3, i as u64, reasons::number_of(why), 0],
     }
 }
 
 // The four words of a fence check's answer.
-fn fences_words(a: fences::Answer) -> [u64; 4]
+fn fences_words(a: Result<fences::Answer, Fault>) -> [u64; 4]
     ensures { result ≡ fences_meaning.words a }
 {
     match a {
-        fences::Answer::Refused(number, offset) => [0, u64::from(number), offset as u64, 0],
-        fences::Answer::Fenced => [1, 0, 0, 0],
-        fences::Answer::Open(t, s, l) => [2, u64::from(t), u64::from(s), u64::from(l)],
+        Err(fault) => refused(fault),
+        Ok(fences::Answer::Fenced) => [1, 0, 0, 0],
+        Ok(fences::Answer::Open(t, s, l)) => [2, u64::from(t), u64::from(s), u64::from(l)],
     }
 }
 

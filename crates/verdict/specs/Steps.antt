@@ -1,5 +1,5 @@
 -- "The schedule's first d bytes hold the steps": so many bytes are there to be printed.
-use Rattle.std.specs.Prelude.{◌≡◌, refl, List, ℕ, ◌≤◌, length, drop}
+use Rattle.std.specs.Prelude.{◌≡◌, refl, List, ℕ, ◌≤◌, length, drop, Ok}
 use Rattle.std.proofs.Common.{ap, subst, arith, length-append}
 use Rattle.rules.specs.File.{Decoded, accepted, refused, decode}
 use Rattle.lent.specs.Meaning.{Lent}
@@ -11,7 +11,7 @@ use Rattle.verdict.specs.Meaning.{VerdictPromise}
 use Rattle.verdict.specs.Deciding.{first_word}
 
 pub steps_there :
-    (bytes : List ℕ) (m : Lent) (v : Verdict) (m' : Lent) → VerdictPromise bytes m v m' → (d n : ℕ) → v.search ≡ Reachable d n →
+    (bytes : List ℕ) (m : Lent) (v : Verdict) (m' : Lent) → VerdictPromise bytes m v m' → (d n : ℕ) → v.search ≡ Ok (Reachable d n) →
     d ≤ length m'.schedule
 unfolding first_word
 steps_there bytes m v m' h d n e = which (decode bytes) refl
