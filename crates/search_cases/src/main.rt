@@ -113,7 +113,11 @@ fn mixed(sum: u64, x: u32) -> u64
 }
 
 fn sum_of<T: Copy + Into<u32>>(room: &[T]) -> u64 {
-    room.iter().fold(0, |sum, x| mixed(sum, (*x).into()))
+    let mut sum = 0;
+    for x in room {
+        sum = mixed(sum, (*x).into());
+    }
+    sum
 }
 
 // Of the index only what has to be unchanged is looked at: all of it after a refusal, else what was not lent.
