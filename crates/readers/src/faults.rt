@@ -1,5 +1,5 @@
 // The refusals of 01, and a fault: a refusal and the offset at which it is given.
-ghost use Rattle.std.specs.Prelude.{◌≡◌};
+ghost use Rattle.std.specs.Prelude.{◌≡◌, ◌++◌, ◌∷◌, decimal, Some};
 ghost use Rattle.readers.specs.Refusals.{number_of};
 
 // In the order of their numbers.
@@ -21,6 +21,8 @@ pub enum Refusal {
     // "search only: no slot"
     NoSlots,
 }
+
+use std::fmt;
 
 // The number by which a refusal is given.
 impl From<Refusal> for u64 {
@@ -55,5 +57,14 @@ impl Refusal {
             refusal: self,
             offset,
         }
+    }
+}
+
+// As it is printed: the refusal's number, a blank, and the offset.
+impl fmt::Display for Fault {
+    ghost output = { λ fault. Some (decimal (number_of fault.refusal) ++ 32 ∷ decimal fault.offset) };
+
+    fn fmt<W: fmt::Write>(&self, f: &mut fmt::Formatter<W>) -> fmt::Result {
+        write!(f, "{} {}", u64::from(self.refusal), self.offset)
     }
 }
