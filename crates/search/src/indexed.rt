@@ -18,7 +18,7 @@ pub fn search_indexed(
 {
     match job::decode(job) {
         Decoded::Accepted(model) => {
-            let slots = shelf::smaller(crate::slots_lent(table, links, schedule), index.len() / 2);
+            let slots = crate::slots_lent(table, links, schedule).min(index.len() / 2);
             crate::search_accepted(
                 table,
                 links,

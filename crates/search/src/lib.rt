@@ -188,13 +188,10 @@ fn turns(
 fn slots_lent(table: &[u8], links: &[u32], schedule: &[u8]) -> usize
     ensures { Counted result (record { table = table.now; links = links.now; schedule = schedule.now }) }
 {
-    shelf::smaller(
-        table.len() / rules::SLOT_SIZE,
-        shelf::smaller(
-            links.len(),
-            shelf::smaller(schedule.len(), rules::MOST_SLOTS),
-        ),
-    )
+    (table.len() / rules::SLOT_SIZE)
+        .min(links.len())
+        .min(schedule.len())
+        .min(rules::MOST_SLOTS)
 }
 
 // The search of an accepted job with so many slots: the index, whatever it holds, is made empty first.

@@ -8,13 +8,13 @@ pub layout_of-requires : goal.layout_of-requires
 layout_of-requires c = is_accepted _ _ (sym c.decode.ensures ∙ c.in-Accepted.is)
 
 pub search_accepted-requires : goal.search_accepted-requires
-search_accepted-requires c = record { accepted = c.layout_of.ensures; has_room = room_indexed _ _ _ c.args.index.now c.slots_lent.ensures c.smaller-slots.ensures }
+search_accepted-requires c = record { accepted = c.layout_of.ensures; has_room = room_indexed _ _ _ c.args.index.now c.slots_lent.ensures c.min-slots.ensures }
 
 pub returns-in-Accepted : goal.returns-in-Accepted
 returns-in-Accepted c =
     let found = c.search_accepted.ensures in
     record {
-      searched = search_in_half _ _ _ _ c.args.index.now _ _ c.slots_lent.ensures c.smaller-slots.ensures c.layout_of.ensures.decoded found.0;
+      searched = search_in_half _ _ _ _ c.args.index.now _ _ c.slots_lent.ensures c.min-slots.ensures c.layout_of.ensures.decoded found.0;
       as_long = c.search_accepted.auto.index;
       unchanged = λ number offset is. found.1 (no_refusal _ _ _ _ _ found.0 number offset is);
     }
