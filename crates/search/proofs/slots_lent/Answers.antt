@@ -4,4 +4,4 @@ use Rattle.search.specs.Whole.{counted}
 use Rattle.search.proofs.slots_lent.Goals as goal
 
 pub returns : goal.returns
-returns c = counted _ _ (omega (arith, c.min.ensures, c.min-2.ensures, c.min-3.ensures))
+returns c = counted _ _ (omega arith)
