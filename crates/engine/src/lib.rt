@@ -23,6 +23,7 @@ use state::State;
 use tables::ClauseRead;
 
 // The state in which all is 0 and empty.
+#[tactic(auto, using(crate::proofs::StartLaws::blank_held))]
 fn blank() -> State
     ensures { Holds result blank }
 {
@@ -35,6 +36,7 @@ fn blank() -> State
 }
 
 // The state in which the job starts: each variable has its initial value, 0 if the job doesn't have it.
+#[tactic(auto, using(crate::proofs::StartLaws::started, crate::proofs::StartLaws::started_more))]
 pub fn start(job: &[u8], l: Layout) -> State
     requires { IsAccepted job.now l }
     ensures { Holds result (jobs.start (job_of job.now)) }
@@ -47,6 +49,7 @@ pub fn start(job: &[u8], l: Layout) -> State
 }
 
 // Whether a thread t of the job that is at this place, with these stores pending, may execute, and why not.
+#[tactic(auto, using(crate::proofs::StepLaws::may_by_read), unfolding(rules::specs::Step::may_execute))]
 fn may_execute(job: &[u8], l: Layout, t: u8, place: u8, own: Buf) -> Result<(), Reason>
     requires accepted { IsAccepted job.now l }
     requires buffer_ok { BufferOk own }
@@ -159,6 +162,7 @@ fn all_empty(x: State) -> bool
     x.bufs.iter().all(|stores| buffer::is_empty(*stores))
 }
 
+#[tactic(auto, unfolding(rules::specs::Goal::clause_holds))]
 fn clause_holds(x: State, c: Clause) -> bool
     requires state_ok { StateOk x }
     requires clause_ok { ClauseOk c }
@@ -189,6 +193,7 @@ fn clauses_hold(job: &[u8], l: Layout, x: State) -> bool
 }
 
 // Whether the state is a goal: the flag and all clauses hold.
+#[tactic(auto, unfolding(rules::specs::Goal::goal))]
 pub fn goal(job: &[u8], l: Layout, x: State) -> bool
     requires { At job.now l x }
     ensures { result ≡ goals.goal (job_of job.now) (held x) }

@@ -18,6 +18,7 @@ pub enum Answer {
 }
 
 // The schedule of an accepted job, step by step: a step is taken if it may be.
+#[tactic(auto, using(crate::specs::Steps::at_step, crate::specs::Steps::stepping_stuck, crate::specs::Steps::stepping_on))]
 fn replay_accepted(job: &[u8], schedule: &[u8], l: Layout) -> Answer
     requires { IsAccepted job.now l }
     ensures { ReplayFor (job_of job.now) schedule.now (words result) }
