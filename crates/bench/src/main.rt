@@ -1,10 +1,11 @@
 // The bench program: 01, "Bench program". Reads a job from standard input, and prints the answers and the verdict.
 #![tactic(auto)]
 
-ghost use Rattle.std.specs.Prelude.{◌≡◌, ℕ, ◌≤◌, length, IfOk, Some};
+ghost use Rattle.std.specs.Prelude.{◌≡◌, ℕ, ◌≤◌, length, IfOk, Ok, Some};
 ghost use Rattle.search.specs.declared.Answer.TheVariants.{Reachable};
 ghost use Rattle.bench.specs.Hex.{two_digits};
 
+use readers::faults::Fault;
 use std::io::Read;
 use std::{fmt, io};
 use verdict::Verdict;
@@ -61,23 +62,29 @@ fn print_reachable(rt: &HostRuntime, states: usize, steps: &[u8]) -> io::Result<
     print_schedule(rt, steps)
 }
 
-fn print_search(rt: &HostRuntime, answer: search::Answer, schedule: &[u8]) -> io::Result<()>
-    requires { (d n : ℕ) → answer ≡ Reachable d n → d ≤ length schedule.now }
+fn print_search(
+    rt: &HostRuntime,
+    answer: Result<search::Answer, Fault>,
+    schedule: &[u8],
+) -> io::Result<()>
+    requires { (d n : ℕ) → answer ≡ Ok (Reachable d n) → d ≤ length schedule.now }
 {
     match answer {
-        search::Answer::Refused(number, offset) => println!(rt; "REFUSED {number} {offset}"),
-        search::Answer::Reachable(d, states) => print_reachable(rt, states, &schedule[..d]),
-        search::Answer::Unreachable(states) => println!(rt; "UNREACHABLE {states}"),
-        search::Answer::Unknown(slots) => println!(rt; "UNKNOWN {slots}"),
+        Err(fault) => println!(rt; "REFUSED {fault}"),
+        Ok(search::Answer::Reachable(d, states)) => print_reachable(rt, states, &schedule[..d]),
+        Ok(search::Answer::Unreachable(states)) => println!(rt; "UNREACHABLE {states}"),
+        Ok(search::Answer::Unknown(slots)) => println!(rt; "UNKNOWN {slots}"),
     }
 }
 
 // A refusal was printed for the search already.
-fn print_fences(rt: &HostRuntime, answer: fences::Answer) -> io::Result<()> {
+fn print_fences(rt: &HostRuntime, answer: Result<fences::Answer, Fault>) -> io::Result<()> {
     match answer {
-        fences::Answer::Refused(_, _) => Ok(()),
-        fences::Answer::Fenced => println!(rt; "FENCED"),
-        fences::Answer::Open(thread, store, load) => println!(rt; "OPEN {thread} {store} {load}"),
+        Err(_) => Ok(()),
+        Ok(fences::Answer::Fenced) => println!(rt; "FENCED"),
+        Ok(fences::Answer::Open(thread, store, load)) => println!(rt;
+            "OPEN {thread} {store} {load}"
+        ),
     }
 }
 
@@ -87,7 +94,7 @@ fn print_decision(rt: &HostRuntime, release: bool) -> io::Result<()> {
 
 // What is behind a failed write is left out, so no verdict stands without its reasons.
 fn print_verdict(rt: &HostRuntime, verdict: Verdict, schedule: &[u8]) -> io::Result<()>
-    requires { (d n : ℕ) → verdict.search ≡ Reachable d n → d ≤ length schedule.now }
+    requires { (d n : ℕ) → verdict.search ≡ Ok (Reachable d n) → d ≤ length schedule.now }
 {
     print_search(rt, verdict.search, schedule)?;
     print_fences(rt, verdict.fences)?;

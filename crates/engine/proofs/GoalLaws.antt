@@ -1,48 +1,30 @@
--- The parts of a goal: the buffers of a state, the clauses that were read, and the flag with the clauses.
-use mathlib.Core.Path.{◌≡◌, sym, ap, ap₂, ◌∙◌}
-use mathlib.Core.Bool.{Bool, true, false, not, ◌&&◌, ◌||◌}
+-- The parts of a goal: the buffers of a state, and the clauses that were read.
+use mathlib.Core.Path.{◌≡◌, sym, ap, ◌∙◌}
 use mathlib.Core.List.{List}
 use mathlib.Core.Option.{some, none-ne-some}
 use Prim.Native.Nat.{ℕ, ◌≤◌, ◌<◌}
 use native.Mathlib.Omega.{arith}
-use lib.ListN.{length, get_or, get_elem?, length-map}
+use lib.ListN.{length, get_or, get_elem?}
 use Rattle.reach.specs.ListLaws.{all_at, at_in, below_at, at_default}
 use Rattle.rules.specs.Limits.{most_threads, most_variables}
-use Rattle.rules.specs.State as states
-use Rattle.rules.specs.State.{Buffer}
 use Rattle.rules.specs.Job.{Job, width}
-use Rattle.rules.specs.Step.{is_empty}
-use Rattle.rules.specs.Goal.{every, nothing_pending, clause_holds, goal}
 use Rattle.rules.specs.Sound.{ClauseIn, JobIn}
 use Rattle.rules.specs.declared.Width.{Width}
 use Rattle.rules.specs.declared.Clause.{Clause}
 use Rattle.rules.specs.declared.Clause.TheVariants.{PlaceIs, RegisterIs, MemoryIs}
 use Rattle.rules.specs.declared.Instr.{Instr}
-use Rattle.buffer.specs.Held.{held_pending, held_buffer, BufferOk}
-use Rattle.buffer.specs.Posts.{Holds as HoldsBuffer}
+use Rattle.buffer.specs.Held.{BufferOk}
 use Rattle.buffer.specs.declared.Buf.{Buf}
 use Rattle.std.specs.Prelude.{Option, Some, None}
 use Rattle.tables.specs.Told.{told}
-use Rattle.state.specs.Held.{held, StateOk}
+use Rattle.state.specs.Held.{StateOk}
 use Rattle.state.specs.declared.State.{State}
 use Rattle.engine.specs.At.{ClauseOk}
 
 module _ (s : State) (ok : StateOk s) where
-  pub buffers_held : length (held s).buffers ≡ most_threads
-  unfolding held
-  buffers_held = length-map s.bufs held_buffer ∙ ok.buffers_number
-
-  pub buffer_at : (t : ℕ) → t < most_threads → get_elem? (held s).buffers t ≡ some (states.buffer t (held s))
-  unfolding states.buffer
-  buffer_at t h = at_default (held s).buffers t states.empty_buffer (omega (arith, buffers_held))
-
   -- each buffer is as it should be
   pub buffer_ok : (b : Buf) (t : ℕ) → t < length s.bufs → b ≡ get_or s.bufs t b → BufferOk b
   buffer_ok b t h is = all_at BufferOk s.bufs ok.buffers b (at_in s.bufs t b (at_default s.bufs t b h ∙ ap some (sym is)))
-
--- a buffer's value is empty where its pending stores are none
-pub empty_as : {x : Buffer} {b : Buf} {e f : Bool} → HoldsBuffer b x → e ≡ is_empty (held_pending b) → e ≡ f → nothing_pending x ≡ f
-empty_as p h k = ap nothing_pending (sym p.held) ∙ sym h ∙ k
 
 -- a clause of a job in range speaks of parts that a state has
 clause_parts :
@@ -67,15 +49,3 @@ module _ (j : Job) (i : ℕ) (r : Option Clause) (read : told r ≡ get_elem? j.
   clause_there e h =
       let c = below_at j.clauses i h in
       none-ne-some c.0 (ap told (sym e) ∙ read ∙ c.1)
-
-module _ (j : Job) (x : states.State) where
-  -- the flag asks for empty buffers
-  pub goal_flag_on :
-      {b : Bool} → j.all_empty ≡ true → every nothing_pending x.buffers ≡ b → goal j x ≡ (b && every (clause_holds x) j.clauses)
-  unfolding goal
-  goal_flag_on e h = ap₂ (λ f b. (not f || b) && every (clause_holds x) j.clauses) e h
-
-  -- else the clauses alone decide
-  pub goal_flag_off : j.all_empty ≡ false → goal j x ≡ every (clause_holds x) j.clauses
-  unfolding goal
-  goal_flag_off e = ap (λ f. (not f || every nothing_pending x.buffers) && every (clause_holds x) j.clauses) e

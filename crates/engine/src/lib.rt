@@ -21,6 +21,7 @@ use rules::{
 use state::State;
 
 // The state in which all is 0 and empty.
+#[tactic(auto, using(crate::proofs::StartLaws::blank_held))]
 fn blank() -> State
     ensures { Holds result blank }
 {
@@ -33,6 +34,7 @@ fn blank() -> State
 }
 
 // The state in which the job starts: each variable has its initial value, 0 if the job doesn't have it.
+#[tactic(auto, using(crate::proofs::StartLaws::started, crate::proofs::StartLaws::started_more))]
 pub fn start(job: &Job) -> State
     ensures { Holds result (jobs.start (job_of job.now.bytes.now)) }
 {
@@ -44,6 +46,7 @@ pub fn start(job: &Job) -> State
 }
 
 // Whether a thread t of the job that is at this place, with these stores pending, may execute, and why not.
+#[tactic(auto, using(crate::proofs::StepLaws::may_by_read), unfolding(rules::specs::Step::may_execute))]
 fn may_execute(job: &Job, t: u8, place: u8, own: Buf) -> Result<(), Reason>
     requires { BufferOk own }
     ensures { result ≡ may_execute_at (job_of job.now.bytes.now) t place (held_pending own) }
@@ -158,6 +161,7 @@ fn all_empty(x: State) -> bool
     x.bufs.iter().all(|stores| buffer::is_empty(*stores))
 }
 
+#[tactic(auto, unfolding(rules::specs::Goal::clause_holds))]
 fn clause_holds(x: State, c: Clause) -> bool
     requires state_ok { StateOk x }
     requires clause_ok { ClauseOk c }
@@ -188,6 +192,7 @@ fn clauses_hold(job: &Job, x: State) -> bool
 }
 
 // Whether the state is a goal: the flag and all clauses hold.
+#[tactic(auto, unfolding(rules::specs::Goal::goal))]
 pub fn goal(job: &Job, x: State) -> bool
     requires { At job.now.bytes.now x }
     ensures { result ≡ goals.goal (job_of job.now.bytes.now) (held x) }

@@ -2,13 +2,14 @@
 #![tactic(auto)]
 
 use fences::Answer;
+use readers::faults::Fault;
 use std::io;
 
-fn print_line(rt: &HostRuntime, answer: Answer) -> io::Result<()> {
+fn print_line(rt: &HostRuntime, answer: Result<Answer, Fault>) -> io::Result<()> {
     match answer {
-        Answer::Refused(number, offset) => println!(rt; "REFUSED {number} {offset}"),
-        Answer::Fenced => println!(rt; "FENCED"),
-        Answer::Open(thread, store, load) => println!(rt; "OPEN {thread} {store} {load}"),
+        Err(fault) => println!(rt; "REFUSED {fault}"),
+        Ok(Answer::Fenced) => println!(rt; "FENCED"),
+        Ok(Answer::Open(thread, store, load)) => println!(rt; "OPEN {thread} {store} {load}"),
     }
 }
 

@@ -1,13 +1,14 @@
 // Decodes each case on standard input and prints a line for it. A case is a count, two bytes, and then so many bytes.
 #![tactic(auto)]
 
-use job::Decoded;
+use readers::faults::Fault;
+use rules::Model;
 use std::io;
 
-fn print_line(rt: &HostRuntime, answer: Decoded) -> io::Result<()> {
+fn print_line(rt: &HostRuntime, answer: Result<Model, Fault>) -> io::Result<()> {
     match answer {
-        Decoded::Accepted(_) => println!(rt; "ACCEPTED"),
-        Decoded::Refused(number, offset) => println!(rt; "REFUSED {number} {offset}"),
+        Ok(_) => println!(rt; "ACCEPTED"),
+        Err(fault) => println!(rt; "REFUSED {fault}"),
     }
 }
 

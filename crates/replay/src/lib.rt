@@ -17,6 +17,7 @@ pub enum Answer {
 }
 
 // The schedule of an accepted job, step by step: a step is taken if it may be.
+#[tactic(auto, using(crate::specs::Steps::at_step, crate::specs::Steps::stepping_stuck, crate::specs::Steps::stepping_on))]
 fn replay_accepted(job: &Job, schedule: &[u8]) -> Answer
     ensures { ReplayFor (job_of job.now.bytes.now) schedule.now (answer_words result) }
 {

@@ -2,18 +2,19 @@
 // two bytes, and then the job and the steps.
 #![tactic(auto)]
 
+use readers::faults::Fault;
 use replay::Answer;
 use std::io;
 
 // More steps than two bytes can count. A case that asks for more ends the run.
 const SCHEDULE_ROOM: usize = 70000;
 
-fn print_line(rt: &HostRuntime, answer: Answer) -> io::Result<()> {
+fn print_line(rt: &HostRuntime, answer: Result<Answer, Fault>) -> io::Result<()> {
     match answer {
-        Answer::Refused(number, offset) => println!(rt; "REFUSED {number} {offset}"),
-        Answer::Reaches => println!(rt; "REACHES"),
-        Answer::FallsShort => println!(rt; "FALLS SHORT"),
-        Answer::Stuck(step, why) => println!(rt; "STUCK {step} {}", reasons::number_of(why)),
+        Err(fault) => println!(rt; "REFUSED {fault}"),
+        Ok(Answer::Reaches) => println!(rt; "REACHES"),
+        Ok(Answer::FallsShort) => println!(rt; "FALLS SHORT"),
+        Ok(Answer::Stuck(step, why)) => println!(rt; "STUCK {step} {}", reasons::number_of(why)),
     }
 }
 

@@ -85,11 +85,8 @@ fn expand(
 {
     let x = slot::read_slot(table, q);
     let mask = engine::enabled(job, x);
-    let mut left = mask;
     let mut at = front;
-    for _tried in 0..bits::count(mask) {
-        let s = bits::lowest(left);
-        left = bits::without_lowest(left);
+    for s in bits::each(mask) {
         at = put_next(table, links, index, width, at, slots, q, s, x, job);
         if at.full {
             return at;

@@ -7,6 +7,7 @@ ghost use Rattle.std.specs.Prelude.{◌<◌, ◌≤◌, IfOk, IfSome};
 ghost use Rattle.std.proofs.Props.{props};
 ghost use Rattle.search_cases.specs.declared.TheConstants.{TABLE_ROOM, LINKS_ROOM, SCHEDULE_ROOM, INDEX_ROOM};
 
+use readers::faults::Fault;
 use search::Answer;
 use std::io;
 use std::io::ErrorKind;
@@ -81,12 +82,12 @@ fn read_sizes(rt: &HostRuntime) -> io::Result<Sizes> {
     })
 }
 
-fn print_answer(rt: &HostRuntime, answer: Answer) -> io::Result<()> {
+fn print_answer(rt: &HostRuntime, answer: Result<Answer, Fault>) -> io::Result<()> {
     match answer {
-        Answer::Refused(number, offset) => println!(rt; "REFUSED {number} {offset}"),
-        Answer::Reachable(distance, states) => println!(rt; "REACHABLE {distance} {states}"),
-        Answer::Unreachable(states) => println!(rt; "UNREACHABLE {states}"),
-        Answer::Unknown(slots) => println!(rt; "UNKNOWN {slots}"),
+        Err(fault) => println!(rt; "REFUSED {fault}"),
+        Ok(Answer::Reachable(distance, states)) => println!(rt; "REACHABLE {distance} {states}"),
+        Ok(Answer::Unreachable(states)) => println!(rt; "UNREACHABLE {states}"),
+        Ok(Answer::Unknown(slots)) => println!(rt; "UNKNOWN {slots}"),
     }
 }
 
@@ -121,13 +122,10 @@ fn sum_of<T: Copy + Into<u32>>(room: &[T]) -> u64 {
 }
 
 // Of the index only what has to be unchanged is looked at: all of it after a refusal, else what was not lent.
-fn unchanged_from(answer: Answer, lent: usize) -> usize
+fn unchanged_from(answer: Result<Answer, Fault>, lent: usize) -> usize
     ensures { result ≤ lent }
 {
-    match answer {
-        Answer::Refused(_, _) => 0,
-        _ => lent,
-    }
+    if answer.is_err() { 0 } else { lent }
 }
 
 // The search with the front of each memory lent; the sums are over all of it, lent or not.

@@ -6,6 +6,6 @@ use Rattle.state.specs.Held.{held}
 use Rattle.search.specs.Walking.{Walking}
 use Rattle.search.proofs.expand.Given as goal
 
-abbrev pub invariant-loop-tried : goal.invariant-loop-tried
-invariant-loop-tried l = Walking (job_of l.job.bytes.now) l.slots l.q (held l.x) l._tried-end (memory l.initial.table l.initial.links l.initial.at) (memory l.table l.links l.at) l.left l._tried
+abbrev pub invariant-loop-s : goal.invariant-loop-s
+invariant-loop-s l = Walking (job_of l.job.bytes.now) l.slots l.q (held l.x) (memory l.initial.table l.initial.links l.initial.at) (memory l.table l.links l.at) l.s-iterator.left
     × Fits slot_size l.slots l.table l.links l.index l.width l.at
