@@ -7,13 +7,13 @@ ghost use Rattle.readers.specs.Passed.{vars_in, came_to, passed};
 ghost use Rattle.job.specs.Passed.{clause_in_bytes};
 ghost use Rattle.job.specs.Stages.{width_in, threads_of, goal_stage};
 
-use crate::threads::Threads;
+use crate::threads::LaidThreads;
 use readers::faults::{Fault, Refusal};
 use readers::{LAST_FLAG, THREADS_AT, VARIABLES_AT, VERSION_AT};
 use rules::{Clause, FEWEST_CLAUSES, MOST_CLAUSES};
 
 // The bytes from `at` as a clause over the threads, if they are one.
-pub fn clause_from(threads: &Threads, at: usize) -> Option<Clause>
+pub fn clause_from(threads: &LaidThreads, at: usize) -> Option<Clause>
     requires { at + item_size (width_in threads.now.job.now) ≤ length threads.now.job.now }
     ensures { told result
         ≡ clause_in_bytes threads.now.job.now (width_in threads.now.job.now) (vars_in threads.now.job.now) (threads_of threads.now.job.now) at }
@@ -24,7 +24,7 @@ pub fn clause_from(threads: &Threads, at: usize) -> Option<Clause>
     tables::clause(job[VARIABLES_AT], job[THREADS_AT], n, i)
 }
 
-fn clause(threads: &Threads, at: usize) -> Result<usize, Fault>
+fn clause(threads: &LaidThreads, at: usize) -> Result<usize, Fault>
     ensures { came_to result
         ≡ passed (file.clause threads.now.job.now (width_in threads.now.job.now) (vars_in threads.now.job.now) (threads_of threads.now.job.now) at) }
 {
@@ -39,7 +39,7 @@ fn clause(threads: &Threads, at: usize) -> Result<usize, Fault>
 }
 
 // The flag, K and as many clauses, and no byte more.
-pub fn goal(threads: &Threads) -> Result<usize, Fault>
+pub fn goal(threads: &LaidThreads) -> Result<usize, Fault>
     ensures { came_to result ≡ goal_stage threads.now.job.now threads.now.starts.now.goal }
 {
     let job = threads.job;

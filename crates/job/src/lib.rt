@@ -17,7 +17,7 @@ pub use parts::Job;
 use readers::faults::{Fault, Refusal};
 use readers::{CAPACITY_AT, Code, MODEL_AT, THREADS_AT, VARIABLES_AT, VERSION_AT};
 use rules::{HEAD_SIZE, Model, THREADS};
-use threads::Threads;
+use threads::LaidThreads;
 
 // Where each thread's n stands, 0 for a thread that the job doesn't have; and the goal's flag, with K and the clauses behind it.
 #[derive(Clone, Copy)]
@@ -57,7 +57,7 @@ fn behind_head(job: &[u8]) -> Result<usize, Fault>
     }
     .threads(job[THREADS_AT], start)?;
     let starts = threads::starts(job);
-    goal::goal(&Threads {
+    goal::goal(&LaidThreads {
         job,
         starts: &starts,
     })

@@ -8,7 +8,7 @@ ghost use Rattle.rules.specs.SoundOnce.{job_once};
 ghost use Rattle.tables.specs.Told.{told};
 ghost use Rattle.job.specs.Laid.{Laid};
 
-use crate::threads::Threads;
+use crate::threads::LaidThreads;
 use crate::{Layout, goal};
 use readers::{Code, VARIABLES_AT, VERSION_AT};
 use rules::{Clause, HEAD_SIZE, Instr};
@@ -24,11 +24,11 @@ pub struct Job<'a> {
 }
 
 impl<'a> Job<'a> {
-    fn threads(&self) -> Threads<'_>
+    fn threads(&self) -> LaidThreads<'_>
         ensures bytes { result.job.now ≡ self.now.bytes.now }
         ensures starts { result.starts.now ≡ self.now.layout.starts }
     {
-        Threads {
+        LaidThreads {
             job: self.bytes,
             starts: &self.layout.starts,
         }

@@ -10,7 +10,7 @@ use rules::{HEAD_SIZE, THREADS, Width};
 
 // Threads that were good: the bytes of their job, and where they begin in them.
 #[derive(Clone, Copy)]
-pub struct Threads<'a> {
+pub struct LaidThreads<'a> {
     pub job: &'a [u8],
     pub starts: &'a Starts,
     pub ghost laid: { StartsLaid job.now starts.now },
@@ -40,7 +40,7 @@ pub fn starts(job: &[u8]) -> Starts
     Starts { threads, goal: at }
 }
 
-impl<'a> Threads<'a> {
+impl<'a> LaidThreads<'a> {
     // A thread's n, 0 for a thread that the job doesn't have.
     pub fn length(&self, t: u8) -> u8
         ensures { result ≡ length (get_or (threads_of self.now.job.now) t []) }

@@ -1,11 +1,11 @@
--- `job::threads::Threads::length` meets its contract: n stands where the thread begins; a thread that is not there is empty.
+-- `job::threads::LaidThreads::length` meets its contract: n stands where the thread begins; a thread that is not there is empty.
 use mathlib.Core.List.{[]}
 use mathlib.Core.Path.{sym, ap}
 use native.Mathlib.Omega.{arith}
 use lib.ListN.{length, get_or-eq_default}
 use Rattle.job.specs.Stages.{threads_of}
 use Rattle.job.proofs.ThreadLaws.{threads_number, starts_good, start_laid}
-use Rattle.job.proofs.threads.Threads.length.Goals as goal
+use Rattle.job.proofs.threads.LaidThreads.length.Goals as goal
 
 pub bounds-self-self : goal.bounds-self-self
 bounds-self-self c =

@@ -1,12 +1,12 @@
--- `job::threads::Threads::instruction_start` meets its contract: the place is one of the thread's, so the thread is there.
+-- `job::threads::LaidThreads::instruction_start` meets its contract: the place is one of the thread's, so the thread is there.
 use mathlib.Core.Path.{◌≡◌}
 use Prim.Native.Nat.{◌*◌}
 use native.Mathlib.Omega.{arith}
 use Rattle.rules.specs.Limits.{item_size}
 use Rattle.job.specs.Stages.{width_in}
 use Rattle.job.proofs.ThreadLaws.{place_there, place_inside}
-use Rattle.job.proofs.threads.Threads.instruction_start.Goals as goal
-use Rattle.job.proofs.threads.Threads.instruction_start.Goals.{After-from}
+use Rattle.job.proofs.threads.LaidThreads.instruction_start.Goals as goal
+use Rattle.job.proofs.threads.LaidThreads.instruction_start.Goals.{After-from}
 
 pub bounds-self-t : goal.bounds-self-t
 bounds-self-t c =
