@@ -1,7 +1,7 @@
 -- The schedule while it is replayed: the steps before i lead to the state.
-use Rattle.std.specs.Prelude.{◌≡◌, refl, List, ℕ, ◌+◌, ◌≤◌, ◌<◌, length, take, Ok, Err}
-use Rattle.std.proofs.Common.{arith, add-one}
-use Rattle.std.proofs.Math.Option.{some}
+use Rattle.std.specs.Prelude.{◌≡◌, refl, Bool, true, false, List, ℕ, ◌+◌, ◌≤◌, ◌<◌, T, length, take, Ok, Err}
+use Rattle.std.proofs.Common.{sym, ◌∙◌, ap, subst, arith, add-one, take_all}
+use Rattle.std.proofs.Math.Option.{Option, some}
 use Rattle.std.proofs.Math.ListN.{get_or, get_elem?}
 use Rattle.reach.specs.ListLaws.{at_default, take_one_more}
 use Rattle.reach.specs.Replay as reach
@@ -10,6 +10,7 @@ use Rattle.reach.specs.RunLaws.{snoc_run}
 use Rattle.rules.specs.Job.{Job, start}
 use Rattle.rules.specs.Step.{may, after, step, next}
 use Rattle.rules.specs.declared.Reason.{Reason}
+use Rattle.rules.specs.Goal.{goal}
 use Rattle.rules.specs.File.{job_of}
 use Rattle.rules.proofs.Keeps.{run_well_formed}
 use Rattle.rules.specs.Machine.{machine}
@@ -25,6 +26,9 @@ module _ (j : Job) (w : List ℕ) where
     pub within : i ≤ length w
     pub ok : StateOk s
     pub leads : LeadsTo (machine j) (take i w) (held s)
+
+  pub stepping_start : {s : State} → Holds s (start j) → Stepping s 0
+  stepping_start h = record { within = omega arith; ok = h.ok; leads = ap {B = Option _} some (sym h.is) }
 
   module _ {s : State} {i : ℕ} (h : Stepping s i) (more : i < length w) where
     step_at : get_elem? w i ≡ some (get_or w i 0)
@@ -50,6 +54,18 @@ module _ (j : Job) (w : List ℕ) where
               rw (add-one i, take_one_more w i (get_or w i 0) step_at)
               (snoc_run (machine j) (take i w) (get_or w i 0) (start j) (held y) (held s) h.leads leads);
         }
+
+  module _ {s : State} {i : ℕ} (h : Stepping s i) (done : length w ≤ i) {b : Bool} (is_goal : b ≡ goal j (held s)) where
+    all_run : LeadsTo (machine j) w (held s)
+    all_run = subst (λ z. LeadsTo (machine j) z (held s)) (take_all i w done) h.leads
+
+    pub stepping_reaches : b ≡ true → ReplayFor j w (replayed_words reach.reaches)
+    stepping_reaches e =
+        record { replayed = reach.reaches; means = (held s, all_run, subst T (sym e ∙ is_goal) tt); answer = refl }
+
+    pub stepping_short : b ≡ false → ReplayFor j w (replayed_words reach.falls_short)
+    stepping_short e =
+        record { replayed = reach.falls_short; means = (held s, all_run, λ t. subst T (sym is_goal ∙ e) t); answer = refl }
 
 -- the state is one of the job's machine
 abbrev pub at_step :

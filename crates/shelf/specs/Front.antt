@@ -1,6 +1,6 @@
 -- What putting a candidate asks and promises.
 use Rattle.std.specs.Prelude.{◌≡◌, refl, false, List, ℕ, ◌+◌, ◌*◌, ◌≤◌, ◌<◌, length, set}
-use Rattle.std.proofs.Common.{add-one, arith}
+use Rattle.std.proofs.Common.{mul-le-mul_left, add-one, arith}
 use Rattle.span.specs.Span.{laid}
 use Rattle.chains.specs.Sums.{word_values, chain_of}
 use Rattle.chains.specs.Chains.{Indexed, entered}
@@ -34,9 +34,19 @@ pub record PutDone (size N : ℕ) (t l : List ℕ) (f : Front) (bytes : List ℕ
   pub put : Put size N (memory t l f) bytes k (memory t' l' f')
   pub ready : Ready size N t' index' width f'.count
 
--- the next slot lies in the table, if any is left
-next_room : (size N : ℕ) (t l index : List ℕ) (width : ℕ) (f : Front) → Fits size N t l index width f → ¬ (f.count ≡ N) → size * f.count + size ≤ length t
-next_room size N t l index width f h n = slot_room size f.count N (length t) (omega (arith, h.few)) h.table
+module _ (size N : ℕ) (t l index : List ℕ) (width : ℕ) (f : Front) (h : Fits size N t l index width f) where
+  -- the counted slots lie in the table, and the next, if any is left
+  pub counted_room : size * f.count ≤ length t
+  counted_room = omega (arith, mul-le-mul_left size h.few, h.table)
+
+  pub next_room : ¬ (f.count ≡ N) → size * f.count + size ≤ length t
+  next_room n = slot_room size f.count N (length t) (omega (arith, h.few)) h.table
+
+  -- the next slot has room in the index, where there is one
+  pub entry_room : (bytes : List ℕ) (chain : ℕ) → OnChain bytes width chain → ¬ (f.count ≡ N) →
+      0 < width → (chain < width) × (width + f.count < length index) × (f.count + 1 < word_values)
+  entry_room bytes chain on n some =
+      ((on some).1, omega (arith, h.ready.room some, h.few, n), omega (arith, h.ready.few some, h.few, n))
 
 -- the bytes laid over the slot behind the last, the link beside them, and the slot on its chain
 pub put_new :
