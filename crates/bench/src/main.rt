@@ -17,7 +17,8 @@ const SLOTS: usize = 400;
 
 const TABLE_SIZE: usize = SLOTS * rules::SLOT_SIZE;
 
-// Reads to the end of the input or of the room, however the bytes arrive. Where a read fails, so does all: a part of a job is not the job.
+// Reads to the end of the input or of the room, however the bytes arrive: it is not known how often. Where a read fails, so does all: a part of a job is
+// not the job.
 fn read_input(rt: &HostRuntime, room: &mut [u8]) -> io::Result<usize>
     ensures { IfOk result (λ count. count ≤ length room.new) }
 {

@@ -57,7 +57,7 @@ pub fn put(m: u64, x: u8) -> u64
     if x < 64 { m | (1 << x) } else { m }
 }
 
-// The lowest number of the set, 64 where it is empty.
+// The lowest number of the set, 64 where it is empty: `Lowest` says so. (`each` gives an Option.)
 pub fn lowest(m: u64) -> u8
     ensures { Lowest m result }
 {

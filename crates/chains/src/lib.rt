@@ -18,7 +18,8 @@ pub fn chain_of(bytes: &[u8], width: usize) -> usize
     (part * (width as u64) / sums::WORD_VALUES) as usize
 }
 
-// Whether one of the counted slots holds the bytes: those on their chain are compared, from the newest back.
+// Whether one of the counted slots holds the bytes: those on their chain are compared, from the newest back. A number of the index is a slot's plus 1,
+// and 0 ends a chain: the index is lent as numbers, from C too.
 pub fn known(
     table: &[u8],
     index: &[u32],

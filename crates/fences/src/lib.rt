@@ -11,7 +11,8 @@ use job::Job;
 use readers::faults::Fault;
 use rules::{Control, Passing, Role};
 
-// What a fence check of an accepted job answers: no pair is open; the least open pair, its thread, store place and load place.
+// What a fence check of an accepted job answers: no pair is open; the least open pair, its thread, store place and load place. (An Option would say
+// None for FENCED.)
 #[derive(Clone, Copy)]
 pub enum Answer {
     Fenced,
@@ -112,7 +113,7 @@ impl<'a> Thread<'a> {
         met
     }
 
-    // All places to which one of the walks leads: looks, until one finds nothing new.
+    // All places to which one of the walks leads: looks, until one finds nothing new. (No index is counted, so it is no `for`.)
     fn places_met(&self, walks: Walks) -> u64
         ensures { Met walks.by (code self.now) walks.first result }
     {
@@ -125,7 +126,7 @@ impl<'a> Thread<'a> {
         met
     }
 
-    // Whether a load stands at place p, and was met.
+    // Whether a load stands at place p, and was met. (The next but one is like it; a function for both would ask for a role and a test.)
     fn is_met_load(&self, met: u64, p: u8) -> bool
         ensures { IsTrue result ↔ MetLoad (code self.now) met p }
     {

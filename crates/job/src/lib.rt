@@ -74,7 +74,7 @@ pub fn decode(job: &[u8]) -> Result<Model, Fault>
 }
 
 // The layout of a job that the decoder accepts, and the model that it then gives.
-fn layout_of(job: &[u8], model: Model) -> Layout
+pub fn layout_of(job: &[u8], model: Model) -> Layout
     requires { AcceptedUnder job.now model }
     ensures { IsAccepted job.now result }
 {

@@ -1,4 +1,5 @@
-// What an instruction is to control, to its thread's buffer and to the fence check: a row for each operation.
+// What an instruction is to control, to its thread's buffer and to the fence check: a row for each operation, alone where rows are equal too, as an
+// edit changes one of them.
 #![tactic(auto)]
 
 ghost use Rattle.std.specs.Prelude.{◌≡◌};

@@ -34,7 +34,7 @@ pub const LAST_MODEL: u8 = 2;
 
 pub const LAST_FLAG: u8 = 1;
 
-// The bytes of a value.
+// The bytes of a value: a row for each width, as its definition has.
 pub fn value_size(w: Width) -> usize
     ensures { result ≡ value_size w }
 {

@@ -1,5 +1,6 @@
 // The lent memory of a search, whatever is searched: a candidate looked up among the slots and put as a slot's bytes, and the schedule written
-// from the links. Where an index is lent, its width is the number of its chains; where none is, it is 0.
+// from the links. Where an index is lent, its width is the number of its chains; where none is, it is 0: the promises are stated over that number
+// (`specs/Front` `Ready`), so it is no Option.
 #![tactic(auto)]
 
 ghost use Rattle.std.specs.Prelude.{◌≡◌, false, ◌++◌, ◌+◌, ◌*◌, ◌≤◌, ◌<◌, length, drop};
@@ -9,7 +10,8 @@ ghost use Rattle.chains.specs.Sums.{word_values};
 ghost use Rattle.chains.specs.Chains.{entered};
 ghost use Rattle.shelf.specs.Front.{Ready, OnChain, Fits, PutDone};
 
-// How many slots are counted, and whether a state was met for which none was left.
+// How many slots are counted, and whether a state was met for which none was left: both, as the memory of `lent/specs/Parts` has them. So it is no
+// Result: where a state was left out, the count is asked for too.
 #[derive(Clone, Copy)]
 pub struct Front {
     pub count: usize,
