@@ -1,4 +1,4 @@
--- The search from turn to turn: a turn judges a level that is whole, or expands one state. So a search can be stopped between any two turns.
+-- The search from level to level: one that is whole is judged, and then its states are expanded. It can be stopped before each level and before each state.
 use Rattle.std.specs.Prelude.{◌≡◌, false, ◌++◌, ℕ, suc, ◌+◌, ◌-◌, ◌≤◌, ◌<◌, length, take}
 use Rattle.std.proofs.Common.{arith, add-one}
 use Rattle.reach.specs.ListLaws.{below_at, at_below}

@@ -1,4 +1,4 @@
--- The search from turn to turn: a turn judges a level that is whole, or expands one state. So a search can be stopped between any two turns.
+-- The search from level to level: one that is whole is judged, and then its states are expanded. It can be stopped before each level and before each state.
 use Rattle.std.specs.Prelude.{◌≡◌, false, List, ℕ, ◌+◌, ◌≤◌, ◌<◌, length}
 use Rattle.std.proofs.Common.{arith, add-one}
 use Rattle.reach.specs.Stored.{table_length, links_length}
@@ -26,7 +26,7 @@ holding C N t l m e h =
       stands = kept_stands C N t l m e h;
     }
 
--- Before a turn: the states before slot `next` are expanded, those from slot `mark` on are at distance d, and the level is whole when `next` has come to `mark`.
+-- Before a level or a state of it: the states before slot `next` are expanded, those from slot `mark` on are at distance d, and the level is whole when `next` has come to `mark`.
 pub record Searching (C : Coding) (N : ℕ) (t l : List ℕ) (d mark next : ℕ) (e : Memory) : Type 0 where
   pub whole : mark ≤ next → Whole C N t l d mark e
   pub growing : next < mark → Growing C N t l d mark next e
