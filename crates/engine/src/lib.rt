@@ -29,7 +29,7 @@ fn blank() -> State
         places: [0; THREADS],
         regs: [0; REGISTERS_SIZE],
         mem: [0; MEMORY_SIZE],
-        bufs: [buffer::empty(); THREADS],
+        bufs: [Buf::empty(); THREADS],
     }
 }
 
@@ -71,7 +71,7 @@ pub fn may(job: &Job, x: State, s: u8) -> Result<(), Reason>
         let t = flush / MOST_VARIABLES;
         let v = flush % MOST_VARIABLES;
         if t < job.layout.threads && v < job.layout.vars {
-            return buffer::flush::may_flush(job.layout.model, state::buffer(x, t), v);
+            return state::buffer(x, t).may_flush(job.layout.model, v);
         }
     }
     Err(Reason::NoSuchStep)
@@ -127,12 +127,12 @@ fn flushes(model: Model, vars: u8, pending: Buf, t: u8, before: u64) -> u64
     ensures { (j : jobs.Job) (x : states.State) → FlushesOf j x model vars t (held_pending pending) →
         before ≡ steps.enabled_below j x (most_threads + most_variables * t) → result ≡ steps.enabled_below j x (most_threads + most_variables * (t + 1)) }
 {
-    if buffer::is_empty(pending) {
+    if pending.is_empty() {
         return before;
     }
     let mut mask = before;
     for v in 0..vars {
-        let on = buffer::flush::may_flush(model, pending, v).is_ok();
+        let on = pending.may_flush(model, v).is_ok();
         mask = bits::with_bit(mask, MOST_THREADS + MOST_VARIABLES * t + v, on);
     }
     mask
@@ -158,7 +158,7 @@ fn all_empty(x: State) -> bool
     requires { StateOk x }
     ensures { result ≡ goals.every goals.nothing_pending (held x).buffers }
 {
-    x.bufs.iter().all(|stores| buffer::is_empty(*stores))
+    x.bufs.iter().all(|stores| stores.is_empty())
 }
 
 #[tactic(auto, unfolding(rules::specs::Goal::clause_holds))]

@@ -43,7 +43,7 @@ fn load(x: State, t: u8, r: u8, v: u8) -> State
     requires is_variable { v < most_variables }
     ensures { (m : Model) → Holds result (rules.changed m t (Load r v) (held x)) }
 {
-    let k = buffer::newest(state::buffer(x, t), v, state::variable(x, v));
+    let k = state::buffer(x, t).newest(v, state::variable(x, v));
     state::with_register(x, t, r, k)
 }
 
@@ -72,11 +72,11 @@ fn stored(m: Model, x: State, t: u8, v: u8, k: u16) -> State
     match m {
         Model::Sc => state::with_variable(x, v, k),
         Model::Tso => {
-            let more = buffer::join::with_last(state::buffer(x, t), v, k);
+            let more = state::buffer(x, t).with_last(v, k);
             state::with_buffer(x, t, more)
         }
         Model::Pso => {
-            let sorted = buffer::join::with_sorted(state::buffer(x, t), v, k);
+            let sorted = state::buffer(x, t).with_sorted(v, k);
             state::with_buffer(x, t, sorted)
         }
     }
@@ -122,7 +122,7 @@ fn wfence(m: Model, x: State, t: u8) -> State
     match m {
         Model::Sc | Model::Tso => x,
         Model::Pso => {
-            let marked = buffer::marked(state::buffer(x, t));
+            let marked = state::buffer(x, t).marked();
             state::with_buffer(x, t, marked)
         }
     }

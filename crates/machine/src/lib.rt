@@ -48,7 +48,7 @@ pub fn flush(x: State, t: u8, v: u8) -> State
     requires is_variable { v < most_variables }
     ensures { Holds result (rules.flushed t v (held x)) }
 {
-    let taken = buffer::flush::take(state::buffer(x, t), v);
+    let taken = state::buffer(x, t).take(v);
     let y = state::with_variable(x, v, taken.value);
     state::with_buffer(y, t, taken.rest)
 }
