@@ -40,7 +40,7 @@ pub fn start(job: &Job) -> State
 {
     let mut x = blank();
     for cell in 0..MOST_VARIABLES {
-        x = state::with_variable(x, cell, job.initial(cell));
+        x = x.with_variable(cell, job.initial(cell));
     }
     x
 }
@@ -63,7 +63,7 @@ pub fn may(job: &Job, x: State, s: u8) -> Result<(), Reason>
     ensures { result ≡ steps.may (job_of job.now.bytes.now) s (held x) }
 {
     if s < job.layout.threads {
-        return may_execute(job, s, state::place(x, s), state::buffer(x, s));
+        return may_execute(job, s, x.place(s), x.buffer(s));
     }
     if MOST_THREADS <= s {
         // From 36 up this is no thread of any job.
@@ -71,7 +71,7 @@ pub fn may(job: &Job, x: State, s: u8) -> Result<(), Reason>
         let t = flush / MOST_VARIABLES;
         let v = flush % MOST_VARIABLES;
         if t < job.layout.threads && v < job.layout.vars {
-            return state::buffer(x, t).may_flush(job.layout.model, v);
+            return x.buffer(t).may_flush(job.layout.model, v);
         }
     }
     Err(Reason::NoSuchStep)
@@ -84,7 +84,7 @@ fn execute(job: &Job, x: State, t: u8) -> State
     requires may_be_taken { steps.may (job_of job.now.bytes.now) t (held x) ≡ Ok tt }
     ensures { Holds result (steps.after (job_of job.now.bytes.now) t (held x)) }
 {
-    match job.instruction_at(t, state::place(x, t)) {
+    match job.instruction_at(t, x.place(t)) {
         Some(i) => machine::execute(i, job.layout.model, x, t),
         None => x,
     }
@@ -168,9 +168,9 @@ fn clause_holds(x: State, c: Clause) -> bool
     ensures { result ≡ goals.clause_holds (held x) c }
 {
     match c {
-        Clause::PlaceIs(t, p) => state::place(x, t) == p,
-        Clause::RegisterIs(t, r, k) => state::register(x, t, r) == k,
-        Clause::MemoryIs(v, k) => state::variable(x, v) == k,
+        Clause::PlaceIs(t, p) => x.place(t) == p,
+        Clause::RegisterIs(t, r, k) => x.register(t, r) == k,
+        Clause::MemoryIs(v, k) => x.variable(v) == k,
     }
 }
 
