@@ -9,70 +9,72 @@ ghost use Rattle.buffer.specs.Posts.{HasRoom, RoomAt, GroupHasRoom, Joined};
 use crate::{Buf, Entry};
 use rules::{ENTRY_SIZE, GROUP_UNIT, MARK_UNIT};
 
-// A store goes in at an index: those from there on move up by one, over an unused entry. The mark, if there is one, ends.
-fn put_in(b: Buf, at: usize, store: Entry) -> Buf
-    requires { RoomAt b at }
-    ensures { Joined result (with_at at (entry store.byte store.value) (held_pending b)) }
-{
-    let n = b.number();
-    let count = b.count % MARK_UNIT + 1;
-    let mut joined = Buf { count, ..b };
-    joined
-        .slots
-        .copy_within(ENTRY_SIZE * at..ENTRY_SIZE * n, ENTRY_SIZE * (at + 1));
-    joined.set_entry(at, store);
-    joined
-}
-
-// TSO: a store joins the end; there is one group.
-pub fn with_last(b: Buf, v: u8, k: u16) -> Buf
-    requires has_room { HasRoom b }
-    requires is_variable { v < group_unit }
-    ensures { Joined result (held_pending b ++ (record { group = 0; variable = v; value = k } ∷ [])) }
-{
-    let n = b.number();
-    put_in(b, n, Entry { byte: v, value: k })
-}
-
-// The index of the first pending store that stands behind where this one goes in, if there is one.
-fn first_after(b: Buf, store: Entry) -> Option<usize>
-    requires { BufferOk b }
-    ensures { result ≡ position (is_after (entry store.byte store.value)) (held_pending b) }
-{
-    b.position(|other| store.byte < other.byte)
-}
-
-// The newest group, that of the last store.
-fn newest_group(b: Buf) -> u8
-    requires { BufferOk b }
-    ensures { (result ≡ rules.newest_group 0 (held_pending b)) × (result < group_unit) }
-{
-    let n = b.number();
-    if n == 0 {
-        return 0;
+impl Buf {
+    // A store goes in at an index: those from there on move up by one, over an unused entry. The mark, if there is one, ends.
+    fn put_in(self, at: usize, store: Entry) -> Buf
+        requires { RoomAt self at }
+        ensures { Joined result (with_at at (entry store.byte store.value) (held_pending self)) }
+    {
+        let n = self.number();
+        let count = self.count % MARK_UNIT + 1;
+        let mut joined = Buf { count, ..self };
+        joined
+            .slots
+            .copy_within(ENTRY_SIZE * at..ENTRY_SIZE * n, ENTRY_SIZE * (at + 1));
+        joined.set_entry(at, store);
+        joined
     }
-    b.entry(n - 1).group()
-}
 
-// The group that a store joins: the newest, or a new one behind a WFENCE.
-fn joined_group(b: Buf) -> u8
-    requires { BufferOk b }
-    ensures { result ≡ rules.joined_group (held_buffer b) }
-{
-    let newest = newest_group(b);
-    if MARK_UNIT <= b.count {
-        return newest + 1;
+    // TSO: a store joins the end; there is one group.
+    pub fn with_last(self, v: u8, k: u16) -> Buf
+        requires has_room { HasRoom self }
+        requires is_variable { v < group_unit }
+        ensures { Joined result (held_pending self ++ (record { group = 0; variable = v; value = k } ∷ [])) }
+    {
+        let n = self.number();
+        self.put_in(n, Entry { byte: v, value: k })
     }
-    newest
-}
 
-// PSO: stores are kept by group and then by variable number, oldest first within a variable.
-pub fn with_sorted(b: Buf, v: u8, k: u16) -> Buf
-    requires { GroupHasRoom b v }
-    ensures { Joined result (rules.in_its_place (record { group = rules.joined_group (held_buffer b); variable = v; value = k }) (held_pending b)) }
-{
-    let byte = GROUP_UNIT * joined_group(b) + v;
-    let store = Entry { byte, value: k };
-    let at = first_after(b, store).unwrap_or(b.number());
-    put_in(b, at, store)
+    // The index of the first pending store that stands behind where this one goes in, if there is one.
+    fn first_after(self, store: Entry) -> Option<usize>
+        requires { BufferOk self }
+        ensures { result ≡ position (is_after (entry store.byte store.value)) (held_pending self) }
+    {
+        self.position(|other| store.byte < other.byte)
+    }
+
+    // The newest group, that of the last store.
+    fn newest_group(self) -> u8
+        requires { BufferOk self }
+        ensures { (result ≡ rules.newest_group 0 (held_pending self)) × (result < group_unit) }
+    {
+        let n = self.number();
+        if n == 0 {
+            return 0;
+        }
+        self.entry(n - 1).group()
+    }
+
+    // The group that a store joins: the newest, or a new one behind a WFENCE.
+    fn joined_group(self) -> u8
+        requires { BufferOk self }
+        ensures { result ≡ rules.joined_group (held_buffer self) }
+    {
+        let newest = self.newest_group();
+        if MARK_UNIT <= self.count {
+            return newest + 1;
+        }
+        newest
+    }
+
+    // PSO: stores are kept by group and then by variable number, oldest first within a variable.
+    pub fn with_sorted(self, v: u8, k: u16) -> Buf
+        requires { GroupHasRoom self v }
+        ensures { Joined result (rules.in_its_place (record { group = rules.joined_group (held_buffer self); variable = v; value = k }) (held_pending self)) }
+    {
+        let byte = GROUP_UNIT * self.joined_group() + v;
+        let store = Entry { byte, value: k };
+        let at = self.first_after(store).unwrap_or(self.number());
+        self.put_in(at, store)
+    }
 }

@@ -12,8 +12,8 @@ ghost use Rattle.buffer.specs.Posts.{read_entry, IsPosition, Holds};
 
 use rules::{ENTRIES_SIZE, ENTRY_SIZE, GROUP_UNIT, MARK_UNIT};
 
-pub mod flush; // a store leaves, if it may
-pub mod join; // a store joins
+mod flush; // a store leaves, if it may
+mod join; // a store joins
 
 // The count byte: how many stores are pending, and 128 more while a WFENCE stands after the newest. Then an entry of three bytes for each
 // store: 16 times its group plus its variable, and its value, the higher byte first; unused entries are 0.
@@ -96,56 +96,56 @@ impl Buf {
         }
         None
     }
-}
 
-pub fn empty() -> Buf
-    ensures { Holds result empty_buffer }
-{
-    Buf {
-        count: 0,
-        slots: [0; ENTRIES_SIZE],
-    }
-}
-
-// How many stores are pending, in all groups.
-pub fn pending(b: Buf) -> u8
-    requires { BufferOk b }
-    ensures { result ≡ length (held_pending b) }
-{
-    b.count % MARK_UNIT
-}
-
-pub fn is_empty(b: Buf) -> bool
-    requires { BufferOk b }
-    ensures { result ≡ rules.is_empty (held_pending b) }
-{
-    b.count % MARK_UNIT == 0
-}
-
-// A WFENCE under PSO stands after the newest store, if there is one.
-pub fn marked(b: Buf) -> Buf
-    requires { BufferOk b }
-    ensures { Holds result (rules.marked_buffer (held_buffer b)) }
-{
-    let n = b.count % MARK_UNIT;
-    if n == 0 {
-        return empty();
-    }
-    let count = MARK_UNIT + n;
-    Buf { count, ..b }
-}
-
-// What a load of v sees: the newest pending store to v, in whichever group, else memory.
-pub fn newest(b: Buf, v: u8, memory: u16) -> u16
-    requires { BufferOk b }
-    ensures { result ≡ rules.newest v memory (held_pending b) }
-{
-    let n = b.number();
-    for i in (0..n).rev() {
-        let store = b.entry(i);
-        if store.variable() == v {
-            return store.value;
+    pub fn empty() -> Buf
+        ensures { Holds result empty_buffer }
+    {
+        Buf {
+            count: 0,
+            slots: [0; ENTRIES_SIZE],
         }
     }
-    memory
+
+    // How many stores are pending, in all groups.
+    pub fn pending(self) -> u8
+        requires { BufferOk self }
+        ensures { result ≡ length (held_pending self) }
+    {
+        self.count % MARK_UNIT
+    }
+
+    pub fn is_empty(self) -> bool
+        requires { BufferOk self }
+        ensures { result ≡ rules.is_empty (held_pending self) }
+    {
+        self.count % MARK_UNIT == 0
+    }
+
+    // A WFENCE under PSO stands after the newest store, if there is one.
+    pub fn marked(self) -> Buf
+        requires { BufferOk self }
+        ensures { Holds result (rules.marked_buffer (held_buffer self)) }
+    {
+        let n = self.count % MARK_UNIT;
+        if n == 0 {
+            return Buf::empty();
+        }
+        let count = MARK_UNIT + n;
+        Buf { count, ..self }
+    }
+
+    // What a load of v sees: the newest pending store to v, in whichever group, else memory.
+    pub fn newest(self, v: u8, memory: u16) -> u16
+        requires { BufferOk self }
+        ensures { result ≡ rules.newest v memory (held_pending self) }
+    {
+        let n = self.number();
+        for i in (0..n).rev() {
+            let store = self.entry(i);
+            if store.variable() == v {
+                return store.value;
+            }
+        }
+        memory
+    }
 }

@@ -29,7 +29,7 @@ fn blank() -> State
         places: [0; THREADS],
         regs: [0; REGISTERS_SIZE],
         mem: [0; MEMORY_SIZE],
-        bufs: [buffer::empty(); THREADS],
+        bufs: [Buf::empty(); THREADS],
     }
 }
 
@@ -40,7 +40,7 @@ pub fn start(job: &Job) -> State
 {
     let mut x = blank();
     for cell in 0..MOST_VARIABLES {
-        x = state::with_variable(x, cell, job.initial(cell));
+        x = x.with_variable(cell, job.initial(cell));
     }
     x
 }
@@ -63,7 +63,7 @@ pub fn may(job: &Job, x: State, s: u8) -> Result<(), Reason>
     ensures { result ≡ steps.may (job_of job.now.bytes.now) s (held x) }
 {
     if s < job.layout.threads {
-        return may_execute(job, s, state::place(x, s), state::buffer(x, s));
+        return may_execute(job, s, x.place(s), x.buffer(s));
     }
     if MOST_THREADS <= s {
         // From 36 up this is no thread of any job.
@@ -71,7 +71,7 @@ pub fn may(job: &Job, x: State, s: u8) -> Result<(), Reason>
         let t = flush / MOST_VARIABLES;
         let v = flush % MOST_VARIABLES;
         if t < job.layout.threads && v < job.layout.vars {
-            return buffer::flush::may_flush(job.layout.model, state::buffer(x, t), v);
+            return x.buffer(t).may_flush(job.layout.model, v);
         }
     }
     Err(Reason::NoSuchStep)
@@ -84,7 +84,7 @@ fn execute(job: &Job, x: State, t: u8) -> State
     requires may_be_taken { steps.may (job_of job.now.bytes.now) t (held x) ≡ Ok tt }
     ensures { Holds result (steps.after (job_of job.now.bytes.now) t (held x)) }
 {
-    match job.instruction_at(t, state::place(x, t)) {
+    match job.instruction_at(t, x.place(t)) {
         Some(i) => machine::execute(i, job.layout.model, x, t),
         None => x,
     }
@@ -127,12 +127,12 @@ fn flushes(model: Model, vars: u8, pending: Buf, t: u8, before: u64) -> u64
     ensures { (j : jobs.Job) (x : states.State) → FlushesOf j x model vars t (held_pending pending) →
         before ≡ steps.enabled_below j x (most_threads + most_variables * t) → result ≡ steps.enabled_below j x (most_threads + most_variables * (t + 1)) }
 {
-    if buffer::is_empty(pending) {
+    if pending.is_empty() {
         return before;
     }
     let mut mask = before;
     for v in 0..vars {
-        let on = buffer::flush::may_flush(model, pending, v).is_ok();
+        let on = pending.may_flush(model, v).is_ok();
         mask = bits::with_bit(mask, MOST_THREADS + MOST_VARIABLES * t + v, on);
     }
     mask
@@ -158,7 +158,7 @@ fn all_empty(x: State) -> bool
     requires { StateOk x }
     ensures { result ≡ goals.every goals.nothing_pending (held x).buffers }
 {
-    x.bufs.iter().all(|stores| buffer::is_empty(*stores))
+    x.bufs.iter().all(|stores| stores.is_empty())
 }
 
 #[tactic(auto, unfolding(rules::specs::Goal::clause_holds))]
@@ -168,9 +168,9 @@ fn clause_holds(x: State, c: Clause) -> bool
     ensures { result ≡ goals.clause_holds (held x) c }
 {
     match c {
-        Clause::PlaceIs(t, p) => state::place(x, t) == p,
-        Clause::RegisterIs(t, r, k) => state::register(x, t, r) == k,
-        Clause::MemoryIs(v, k) => state::variable(x, v) == k,
+        Clause::PlaceIs(t, p) => x.place(t) == p,
+        Clause::RegisterIs(t, r, k) => x.register(t, r) == k,
+        Clause::MemoryIs(v, k) => x.variable(v) == k,
     }
 }
 

@@ -31,8 +31,8 @@ fn add(x: State, t: u8, w: Width, r: u8, k: u16) -> State
     requires is_register { r < registers_each }
     ensures { (m : Model) → Holds result (rules.changed m t (Add w r k) (held x)) }
 {
-    let total = sum(w, state::register(x, t, r), k);
-    state::with_register(x, t, r, total)
+    let total = sum(w, x.register(t, r), k);
+    x.with_register(t, r, total)
 }
 
 // Register r takes the newest pending store of the thread's own to v, else memory.
@@ -43,8 +43,8 @@ fn load(x: State, t: u8, r: u8, v: u8) -> State
     requires is_variable { v < most_variables }
     ensures { (m : Model) → Holds result (rules.changed m t (Load r v) (held x)) }
 {
-    let k = buffer::newest(state::buffer(x, t), v, state::variable(x, v));
-    state::with_register(x, t, r, k)
+    let k = x.buffer(t).newest(v, x.variable(v));
+    x.with_register(t, r, k)
 }
 
 // What a store carries.
@@ -55,7 +55,7 @@ fn carried(x: State, t: u8, a: Source) -> u16
     ensures { result ≡ rules.carried t (held x) a }
 {
     match a {
-        Source::Register(r) => state::register(x, t, r),
+        Source::Register(r) => x.register(t, r),
         Source::Constant(k) => k,
     }
 }
@@ -70,14 +70,14 @@ fn stored(m: Model, x: State, t: u8, v: u8, k: u16) -> State
     ensures { Holds result (rules.stored m t v k (held x)) }
 {
     match m {
-        Model::Sc => state::with_variable(x, v, k),
+        Model::Sc => x.with_variable(v, k),
         Model::Tso => {
-            let more = buffer::join::with_last(state::buffer(x, t), v, k);
-            state::with_buffer(x, t, more)
+            let more = x.buffer(t).with_last(v, k);
+            x.with_buffer(t, more)
         }
         Model::Pso => {
-            let sorted = buffer::join::with_sorted(state::buffer(x, t), v, k);
-            state::with_buffer(x, t, sorted)
+            let sorted = x.buffer(t).with_sorted(v, k);
+            x.with_buffer(t, sorted)
         }
     }
 }
@@ -90,9 +90,9 @@ fn xchg(x: State, t: u8, r: u8, v: u8) -> State
     requires is_variable { v < most_variables }
     ensures { (m : Model) → Holds result (rules.changed m t (Xchg r v) (held x)) }
 {
-    let old = state::variable(x, v);
-    let y = state::with_variable(x, v, state::register(x, t, r));
-    state::with_register(y, t, r, old)
+    let old = x.variable(v);
+    let y = x.with_variable(v, x.register(t, r));
+    y.with_register(t, r, old)
 }
 
 // Memory's v becomes k if it equals register r, and r takes the old value either way.
@@ -103,14 +103,10 @@ fn cmpx(x: State, t: u8, r: u8, v: u8, k: u16) -> State
     requires is_variable { v < most_variables }
     ensures { (m : Model) → Holds result (rules.changed m t (Cmpx r v k) (held x)) }
 {
-    let old = state::variable(x, v);
-    let own = state::register(x, t, r);
-    let written = if old == own {
-        state::with_variable(x, v, k)
-    } else {
-        x
-    };
-    state::with_register(written, t, r, old)
+    let old = x.variable(v);
+    let own = x.register(t, r);
+    let written = if old == own { x.with_variable(v, k) } else { x };
+    written.with_register(t, r, old)
 }
 
 // A WFENCE: under PSO it stands after the newest store, under SC and TSO it does nothing.
@@ -122,8 +118,8 @@ fn wfence(m: Model, x: State, t: u8) -> State
     match m {
         Model::Sc | Model::Tso => x,
         Model::Pso => {
-            let marked = buffer::marked(state::buffer(x, t));
-            state::with_buffer(x, t, marked)
+            let marked = x.buffer(t).marked();
+            x.with_buffer(t, marked)
         }
     }
 }
@@ -138,7 +134,7 @@ pub fn changed(i: Instr, m: Model, x: State, t: u8) -> State
     ensures { Holds result (rules.changed m t i (held x)) }
 {
     match i {
-        Instr::Set(r, k) => state::with_register(x, t, r, k),
+        Instr::Set(r, k) => x.with_register(t, r, k),
         Instr::Add(w, r, k) => add(x, t, w, r, k),
         Instr::Load(r, v) => load(x, t, r, v),
         Instr::Store(a, v) => stored(m, x, t, v, carried(x, t, a)),
@@ -158,7 +154,7 @@ pub fn place_after(c: Control, x: State, t: u8) -> u8
 {
     match c {
         Control::To(p) => p,
-        Control::ToIf(r, k, p) if state::register(x, t, r) == k => p,
-        Control::On | Control::ToIf(_, _, _) => state::place(x, t) + 1,
+        Control::ToIf(r, k, p) if x.register(t, r) == k => p,
+        Control::On | Control::ToIf(_, _, _) => x.place(t) + 1,
     }
 }

@@ -38,7 +38,7 @@ pub fn execute(i: Instr, m: Model, x: State, t: u8) -> State
     ensures { Holds result (rules.executed m t i (held x)) }
 {
     let place = effects::place_after(kinds::control_of(i), x, t);
-    state::with_place(effects::changed(i, m, x, t), t, place)
+    effects::changed(i, m, x, t).with_place(t, place)
 }
 
 // The oldest pending store of thread t to v goes to memory: whether it may is asked before.
@@ -48,7 +48,7 @@ pub fn flush(x: State, t: u8, v: u8) -> State
     requires is_variable { v < most_variables }
     ensures { Holds result (rules.flushed t v (held x)) }
 {
-    let taken = buffer::flush::take(state::buffer(x, t), v);
-    let y = state::with_variable(x, v, taken.value);
-    state::with_buffer(y, t, taken.rest)
+    let taken = x.buffer(t).take(v);
+    let y = x.with_variable(v, taken.value);
+    y.with_buffer(t, taken.rest)
 }

@@ -14,7 +14,7 @@ fn has_room(m: Model, capacity: u8, b: Buf) -> bool
 {
     match m {
         Model::Sc => true,
-        Model::Tso | Model::Pso => buffer::pending(b) < capacity,
+        Model::Tso | Model::Pso => b.pending() < capacity,
     }
 }
 
@@ -27,6 +27,6 @@ pub fn free(w: Wait, m: Model, capacity: u8, b: Buf) -> Result<(), Reason>
     match w {
         Wait::Never => Ok(()),
         Wait::ForRoom => reasons::needs(has_room(m, capacity, b), Reason::BufferFull),
-        Wait::UntilEmpty => reasons::needs(buffer::is_empty(b), Reason::BufferNotEmpty),
+        Wait::UntilEmpty => reasons::needs(b.is_empty(), Reason::BufferNotEmpty),
     }
 }

@@ -23,15 +23,6 @@ pub struct State {
     pub bufs: [Buf; THREADS],
 }
 
-// The place that thread t is at.
-#[tactic(auto, unfolding(rules::specs::State::place, crate::specs::Held::held))]
-pub fn place(x: State, t: u8) -> u8
-    requires { At x t }
-    ensures { result ≡ place t (held x) }
-{
-    x.places[usize::from(t)]
-}
-
 // Where register r of thread t stands: thread by thread.
 fn register_index(t: u8, r: u8) -> usize
     requires { (t < most_threads) × (r < registers_each) }
@@ -58,67 +49,78 @@ fn set_word(bytes: &mut [u8], i: usize, k: u16)
     bytes[at + 1] = words::low(k);
 }
 
-// Register r of thread t.
-pub fn register(x: State, t: u8, r: u8) -> u16
-    requires at { At x t }
-    requires is_register { r < registers_each }
-    ensures { result ≡ register t r (held x) }
-{
-    word_at(&x.regs, register_index(t, r))
-}
+impl State {
+    // The place that thread t is at.
+    #[tactic(auto, unfolding(rules::specs::State::place, crate::specs::Held::held))]
+    pub fn place(self, t: u8) -> u8
+        requires { At self t }
+        ensures { result ≡ place t (held self) }
+    {
+        self.places[usize::from(t)]
+    }
 
-// What memory has at variable v.
-pub fn variable(x: State, v: u8) -> u16
-    requires state_ok { StateOk x }
-    requires is_variable { v < most_variables }
-    ensures { result ≡ variable v (held x) }
-{
-    word_at(&x.mem, usize::from(v))
-}
+    // Register r of thread t.
+    pub fn register(self, t: u8, r: u8) -> u16
+        requires at { At self t }
+        requires is_register { r < registers_each }
+        ensures { result ≡ register t r (held self) }
+    {
+        word_at(&self.regs, register_index(t, r))
+    }
 
-// The buffer of thread t.
-pub fn buffer(x: State, t: u8) -> Buf
-    requires { At x t }
-    ensures { HoldsBuffer result (buffer t (held x)) }
-{
-    x.bufs[usize::from(t)]
-}
+    // What memory has at variable v.
+    pub fn variable(self, v: u8) -> u16
+        requires state_ok { StateOk self }
+        requires is_variable { v < most_variables }
+        ensures { result ≡ variable v (held self) }
+    {
+        word_at(&self.mem, usize::from(v))
+    }
 
-pub fn with_place(x: State, t: u8, p: u8) -> State
-    requires { At x t }
-    ensures { Holds result (with_place t p (held x)) }
-{
-    let mut y = x;
-    y.places[usize::from(t)] = p;
-    y
-}
+    // The buffer of thread t.
+    pub fn buffer(self, t: u8) -> Buf
+        requires { At self t }
+        ensures { HoldsBuffer result (buffer t (held self)) }
+    {
+        self.bufs[usize::from(t)]
+    }
 
-pub fn with_register(x: State, t: u8, r: u8, k: u16) -> State
-    requires at { At x t }
-    requires is_register { r < registers_each }
-    ensures { Holds result (with_register t r k (held x)) }
-{
-    let mut y = x;
-    set_word(&mut y.regs, register_index(t, r), k);
-    y
-}
+    pub fn with_place(self, t: u8, p: u8) -> State
+        requires { At self t }
+        ensures { Holds result (with_place t p (held self)) }
+    {
+        let mut y = self;
+        y.places[usize::from(t)] = p;
+        y
+    }
 
-pub fn with_variable(x: State, v: u8, k: u16) -> State
-    requires state_ok { StateOk x }
-    requires is_variable { v < most_variables }
-    ensures { Holds result (with_variable v k (held x)) }
-{
-    let mut y = x;
-    set_word(&mut y.mem, usize::from(v), k);
-    y
-}
+    pub fn with_register(self, t: u8, r: u8, k: u16) -> State
+        requires at { At self t }
+        requires is_register { r < registers_each }
+        ensures { Holds result (with_register t r k (held self)) }
+    {
+        let mut y = self;
+        set_word(&mut y.regs, register_index(t, r), k);
+        y
+    }
 
-pub fn with_buffer(x: State, t: u8, b: Buf) -> State
-    requires at { At x t }
-    requires buffer_ok { BufferOk b }
-    ensures { Holds result (with_buffer t (held_buffer b) (held x)) }
-{
-    let mut y = x;
-    y.bufs[usize::from(t)] = b;
-    y
+    pub fn with_variable(self, v: u8, k: u16) -> State
+        requires state_ok { StateOk self }
+        requires is_variable { v < most_variables }
+        ensures { Holds result (with_variable v k (held self)) }
+    {
+        let mut y = self;
+        set_word(&mut y.mem, usize::from(v), k);
+        y
+    }
+
+    pub fn with_buffer(self, t: u8, b: Buf) -> State
+        requires at { At self t }
+        requires buffer_ok { BufferOk b }
+        ensures { Holds result (with_buffer t (held_buffer b) (held self)) }
+    {
+        let mut y = self;
+        y.bufs[usize::from(t)] = b;
+        y
+    }
 }
