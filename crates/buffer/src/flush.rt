@@ -1,8 +1,9 @@
 // A flush: whether it may be taken, and the store that it takes from a buffer.
-ghost use Rattle.std.specs.Prelude.{◌≡◌, ◌-◌, ◌/◌, ◌%◌, ◌<◌, position, IfSome};
+ghost use Rattle.std.specs.Prelude.{◌≡◌, ◌-◌, ◌/◌, ◌%◌, ◌<◌, position, IfSome, Err, true};
 ghost use Rattle.rules.specs.Limits.{group_unit};
 ghost use Rattle.rules.specs.Step as rules;
-ghost use Rattle.rules.specs.declared.Model.TheVariants.{Tso, Pso};
+ghost use Rattle.rules.specs.Step.{needs, ◌then◌};
+ghost use Rattle.rules.specs.declared.Reason.TheVariants.{NothingToFlush, NotTheOldest};
 ghost use Rattle.buffer.specs.Held.{number, held_pending, held_buffer, BufferOk};
 ghost use Rattle.buffer.specs.Places.{is_to, is_next_to};
 ghost use Rattle.buffer.specs.Posts.{why_not, Holds, TakesOut, counted_buffer, Takes};
@@ -61,47 +62,37 @@ impl Buf {
     }
 
     // Why a store to v may not be flushed: where there is one, it is not the oldest.
-    fn why_not(self, v: u8) -> Result<(), Reason>
+    fn why_not(self, v: u8) -> Reason
         requires { BufferOk self }
-        ensures { result ≡ why_not v (held_pending self) }
+        ensures { Err result ≡ why_not v (held_pending self) }
     {
         if self.is_pending_to(v) {
-            return Err(Reason::NotTheOldest);
+            return Reason::NotTheOldest;
         }
-        Err(Reason::NothingToFlush)
+        Reason::NothingToFlush
     }
 
-    // Under TSO only the oldest store may be flushed.
-    fn may_flush_oldest(self, v: u8) -> Result<(), Reason>
-        requires { BufferOk self }
-        ensures { result ≡ rules.may_flush Tso v (held_pending self) }
+    // A store to v may be flushed if it is the first of those that the model lets go.
+    fn may_flush_first(self, first: bool, v: u8) -> Result<(), Reason>
+        requires buffer_ok { BufferOk self }
+        requires pending { first ≡ true → rules.is_pending_to v (held_pending self) ≡ true }
+        ensures { result ≡ (needs (rules.is_pending_to v (held_pending self)) NothingToFlush then needs first NotTheOldest) }
     {
-        if self.is_oldest_to(v) {
+        if first {
             return Ok(());
         }
-        self.why_not(v)
+        Err(self.why_not(v))
     }
 
-    // Under PSO the oldest store to each variable may be flushed, if it is of the oldest group.
-    fn may_flush_oldest_group(self, v: u8) -> Result<(), Reason>
-        requires { BufferOk self }
-        ensures { result ≡ rules.may_flush Pso v (held_pending self) }
-    {
-        if self.is_in_oldest_group(v) {
-            return Ok(());
-        }
-        self.why_not(v)
-    }
-
-    // Whether a store may be flushed to v, and why not: under TSO the oldest alone, under PSO those of the oldest group; SC has no flush.
+    // Whether a store to v may be flushed, and why not: under TSO the oldest alone, under PSO those of the oldest group; SC has no flush.
     pub fn may_flush(self, m: Model, v: u8) -> Result<(), Reason>
         requires { BufferOk self }
         ensures { result ≡ rules.may_flush m v (held_pending self) }
     {
         match m {
             Model::Sc => Err(Reason::NothingToFlush),
-            Model::Tso => self.may_flush_oldest(v),
-            Model::Pso => self.may_flush_oldest_group(v),
+            Model::Tso => self.may_flush_first(self.is_oldest_to(v), v),
+            Model::Pso => self.may_flush_first(self.is_in_oldest_group(v), v),
         }
     }
 
