@@ -105,23 +105,27 @@ def by_hand(folder):
 
 
 def facts(folder):
-    """A fact in the `requires` of three functions or more; parameters that stand together in three functions or more."""
-    asked, together = {}, {}
+    """A fact in the `requires` of three functions or more; parameters that always stand together, in three functions or more."""
+    asked, taking = {}, {}
     for path, text in sources(folder):
         for name, line, parameters, clauses, _ in functions(text):
             own = re.findall(r"requires(?: \w+)? \{(.*?)\}\n", clauses + "\n", re.S)
             for word in {it for clause in own for it in re.findall(r"\b([A-Z]\w+)\b(?=[ \n])", clause)}:
                 asked.setdefault(word, []).append((path, line, name))
-            listed = [(it.split(":")[0].replace("mut ", "").strip(), it.split(":", 1)[1].strip()) for it in re.sub(r"<[^<>]*>", "", parameters).split(",") if ":" in it]
-            for one in range(len(listed)):
-                for two in range(one + 1, len(listed)):
-                    together.setdefault((listed[one], listed[two]), []).append((path, line, name))
+            listed = [it.strip() for it in re.sub(r"<[^<>]*>", "", parameters).replace("mut ", "mut_").split(",") if ":" in it]
+            listed = [it.replace("mut_", "mut ") for it in listed]
+            for one in listed:
+                taking.setdefault(one, []).append((path, line, name, set(listed) - {one}))
     for word, where in sorted(asked.items()):
         if len(where) >= 3:
             yield where[0][0], where[0][1], f"requires {word}: {len(where)} functions"
-    for pair, where in sorted(together.items()):
-        if len(where) >= 3:
-            yield where[0][0], where[0][1], f"{pair[0][0]}: {pair[0][1]} with {pair[1][0]}: {pair[1][1]}: {len(where)} functions"
+    seen = set()
+    for one, where in sorted(taking.items()):
+        others = set.intersection(*[it[3] for it in where]) if len(where) >= 3 else set()
+        group = frozenset(others | {one})
+        if others and group not in seen:
+            seen.add(group)
+            yield where[0][0], where[0][1], f"{one} always with {', '.join(sorted(others))}: {len(where)} functions"
 
 
 def lengths(folder):
