@@ -1,5 +1,5 @@
 -- The refusals by their numbers: 01, "Refusal numbers and their order".
-use Rattle.std.specs.Prelude.{◌≡◌, refl, List, [], ◌∷◌, ℕ, get_or}
+use Rattle.std.specs.Prelude.{◌≡◌, refl, [], ◌∷◌, ℕ, get_or}
 use Rattle.std.proofs.Common.{sym, ap, ◌∙◌}
 use Rattle.readers.specs.declared.faults.Refusal.{Refusal}
 use Rattle.readers.specs.declared.faults.Refusal.TheVariants.{LengthWrong, VersionWrong, HeadOutOfRange, ThreadBad, GoalBad, NotWhole, NoSlots}

@@ -1,9 +1,9 @@
 -- The steps of one state, by the mask of those that may be taken: its lowest bit is the next step, and what is passed over may not be taken.
-use Rattle.std.specs.Prelude.{◌≡◌, refl, true, Ok}
+use Rattle.std.specs.Prelude.{◌≡◌, true, Ok}
 use Rattle.std.proofs.Common.{sym, ◌∙◌, subst, arith}
 use Rattle.std.proofs.Math.Path.{ap}
 use Rattle.std.proofs.Math.Option.{none, some}
-use Prim.Native.Nat.{ℕ, zero, suc, ◌+◌, ◌^◌, ◌≤◌, ◌<◌}
+use Prim.Native.Nat.{ℕ, suc, ◌≤◌, ◌<◌}
 use Rattle.std.proofs.Math.Decide.{dec_lt}
 use Rattle.bits.specs.Bits.{bit_of, lowest_of, Lowest, WithoutLowest}
 use Rattle.bits.specs.BitLaws.{bit_of_zero}

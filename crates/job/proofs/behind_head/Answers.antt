@@ -1,14 +1,10 @@
 -- `job::behind_head` meets its contract: the initial values are there or not; then the threads and the goal decide.
 use mathlib.Core.Path.{◌≡◌, sym, ap, ◌∙◌}
-use Prim.Native.Nat.{◌+◌, ◌-◌, ◌*◌, ◌/◌, ◌≤◌}
-use native.Mathlib.Nat.{mul-div-le}
+use Prim.Native.Nat.{◌+◌, ◌*◌}
 use native.Mathlib.Omega.{arith}
-use lib.ListN.{length}
-use Rattle.rules.specs.Limits.{byte_values, head_size, value_size, item_size}
-use Rattle.rules.specs.declared.Width.TheVariants.{Two}
-use Rattle.readers.specs.Passed.{At, came_to, variables_at, count_in, passed}
+use Rattle.rules.specs.Limits.{head_size, value_size}
+use Rattle.readers.specs.Passed.{At, came_to, count_in, passed}
 use Rattle.readers.proofs.Readers.{came_to_err}
-use Rattle.readers.proofs.Widths.{size_positive, few_bytes}
 use Rattle.job.specs.Stages.{width_in, values_stage, values_end, threads_read, rest_stage}
 use Rattle.job.proofs.StageLaws.{values_stage_there, values_stage_missing}
 use Rattle.job.proofs.behind_head.Goals as goal
@@ -16,9 +12,6 @@ use Rattle.job.proofs.behind_head.Goals.{After-threads, After-value_size-size, A
 
 size_is : (c : After-value_size-size) → c.value_size-size.result ≡ value_size (width_in c.args.job.now)
 size_is c = c.value_size-size.ensures ∙ ap value_size c.width.ensures
-
-few : (c : After-from) → c.value_size-size.result * c.from.result ≤ item_size Two * byte_values
-few c = few_bytes c.width.result _ _ (omega (arith, c.value_size-size.ensures)) (omega (arith, c.from.ensures, (c.type_inv.job variables_at).fits))
 
 start_is : (c : After-from) → head_size + c.value_size-size.result * c.from.result ≡ values_end c.args.job.now
 start_is c = rw ((c.value_size-size.ensures ∙ ap value_size c.width.ensures), c.from.ensures)
@@ -36,27 +29,7 @@ threads_are c =
     let start : head_size + c.value_size-size.result * c.from.result ≡ values_end c.args.job.now = rw (c.value_size-size.ensures ∙ ap value_size c.width.ensures, c.from.ensures) in
     rw start at c.threads.ensures
 
-pub overflow_mul-start : goal.overflow_mul-start
-overflow_mul-start c = omega (arith, few c)
-
-pub overflow_add-start : goal.overflow_add-start
-overflow_add-start c = omega (arith, few c)
-
-pub nonzero_div-whole : goal.nonzero_div-whole
-nonzero_div-whole c = omega (arith, c.value_size-size.ensures, size_positive c.width.result)
-
 -- those that are whole end within the bytes
-inside : (c : Then-job-start) →
-    let length = length c.args.job.now in
-    c.value_size-size.result * ((length - head_size) / c.value_size-size.result) ≤ length - head_size
-inside c = mul-div-le _ _
-
-pub overflow_mul-size : goal.overflow_mul-size
-overflow_mul-size c = omega (arith, inside c)
-
-pub overflow_add-size : goal.overflow_add-size
-overflow_add-size c = omega (arith, inside c)
-
 pub returns-then-job-start : goal.returns-then-job-start
 unfolding rest_stage
 returns-then-job-start c =

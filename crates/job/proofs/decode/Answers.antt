@@ -1,5 +1,5 @@
 -- `job::decode` meets its contract: the length is judged first, and then the fields from the front.
-use mathlib.Core.Path.{◌≡◌, refl, sym, ap, ◌∙◌}
+use mathlib.Core.Path.{◌≡◌, refl}
 use native.Mathlib.Omega.{arith}
 use Prim.Native.Nat.{ℕ}
 use Rattle.std.specs.Prelude.{Option, Some, None, ok_or}
@@ -7,7 +7,7 @@ use Rattle.rules.specs.declared.Model.{Model}
 use Rattle.tables.specs.Told.{told}
 use Rattle.readers.specs.declared.faults.Fault as faults
 use Rattle.readers.specs.declared.faults.Refusal.TheVariants.{HeadOutOfRange}
-use Rattle.readers.specs.Passed.{At, model_at, came_to, then}
+use Rattle.readers.specs.Passed.{At, model_at, then}
 use Rattle.job.specs.Passed.{came_out, answer}
 use Rattle.readers.specs.Stages.{length_stage, head_stage}
 use Rattle.readers.proofs.Readers.{handed_on}

@@ -1,11 +1,7 @@
 use mathlib.Core.Path.{sym, ◌∙◌}
-use native.Mathlib.Nat.{sub-zero}
 use Rattle.std.proofs.Common.{rules}
 use Rattle.readers.proofs.Readers.{came_to_err, repeated_step, repeated_fault}
 use Rattle.readers.proofs.times.Goals as goal
-
-pub items-init : goal.items-init
-items-init g c = (c.ranges.start.fits, λ r h. rw sub-zero)
 
 pub items-preserved : goal.items-preserved
 items-preserved g c =

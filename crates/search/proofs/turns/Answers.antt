@@ -6,21 +6,13 @@ use Rattle.lent.proofs.Levels.{answered_reachable, answered_unreachable, answere
 use Rattle.lent.specs.Searching.{searching_level}
 use Rattle.lent.proofs.Searching.{searching_start, searching_state}
 use Rattle.search.specs.Coded.{faithful}
-use Rattle.search.specs.Whole.{laid_out, fits_laid, put_laid}
+use Rattle.search.specs.Whole.{laid_out, put_laid}
 use Rattle.search.proofs.turns.Goals as goal
 use Rattle.search.proofs.turns.Goals.{Start}
 
 -- the memory as it was lent
 abbrev lent : Start → Lent
 lent c = record { table = c.args.table.now; links = c.args.links.now; schedule = c.args.schedule.now }
-
-pub put_first-front-requires : goal.put_first-front-requires
-put_first-front-requires c =
-    record {
-      fits = fits_laid _ _ _ _ _ _ _ (laid_out _ _ c.start.ensures _ c.bytes_of-start.ensures) _
-          (record { table = c.requires.lends.table; links = c.requires.lends.links; few = omega arith; ready = c.requires.ready });
-      full_value = (refl, refl, c.requires.some_slot);
-    }
 
 pub turns-init : goal.turns-init
 turns-init c =

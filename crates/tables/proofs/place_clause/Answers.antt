@@ -1,6 +1,6 @@
 -- `tables::place_clause` meets its contract: a place past the thread's end is refused, whatever the other bytes are.
-use mathlib.Core.Bool.{and-true, and-false}
-use borrow.Author.Tests.{le-leb, lt-leb}
+use mathlib.Core.Bool.{and-true}
+use borrow.Author.Tests.{le-leb}
 use native.Mathlib.Omega.{arith}
 use Rattle.rules.specs.File.{zero_ok}
 use Rattle.tables.proofs.ToldLaws.{told_given}
@@ -9,6 +9,3 @@ use Rattle.tables.proofs.place_clause.Goals as goal
 pub returns-then-c-from : goal.returns-then-c-from
 unfolding zero_ok
 returns-then-c-from c = rw (le-leb c.args.c c.args.n (omega (arith, c.from.ensures, c.if-c-from.true)), and-true, c.then_some.ensures) (told_given _ _)
-
-pub returns-else-c-from : goal.returns-else-c-from
-returns-else-c-from c = rw (lt-leb c.args.c c.args.n (omega (arith, c.from.ensures, c.if-c-from.false)), and-false)

@@ -2,7 +2,6 @@
 use mathlib.Core.Path.{◌≡◌, sym, ap, ◌∙◌}
 use mathlib.Core.Option.{some, none}
 use Prim.Native.Nat.{◌+◌, ◌≤◌}
-use native.Mathlib.Omega.{arith}
 use borrow.Author.Tests.{leb-true, leb-false}
 use lib.ListN.{length}
 use Rattle.rules.specs.Limits.{item_size}
@@ -21,12 +20,6 @@ asked c = c.item_size-size.ensures ∙ ap item_size c.width.ensures
 there :
     (c : Else-not-is_there) → let job = c.args.threads.now.job.now in c.args.at + item_size (width_in job) ≤ length job
 there c = rw (← (c.item_size-size.ensures ∙ ap item_size c.width.ensures)) (leb-true _ _ (sym c.is_there.ensures ∙ c.if-not-is_there.false))
-
-pub overflow_add-result : goal.overflow_add-result
-overflow_add-result c = let h = there (goal.at.overflow_add-result c).Else-not-is_there in omega (arith, asked (goal.at.overflow_add-result c).After-is_there)
-
-pub clause_from-requires : goal.clause_from-requires
-clause_from-requires c = there c
 
 pub returns-in-Some : goal.returns-in-Some
 unfolding clause byte judged

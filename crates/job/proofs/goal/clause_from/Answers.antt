@@ -3,9 +3,6 @@ use mathlib.Core.Path.{◌∙◌}
 use Rattle.job.proofs.ThreadLaws.{threads_number, starts_good}
 use Rattle.job.proofs.goal.clause_from.Goals as goal
 
-pub item_at-i-requires : goal.item_at-i-requires
-item_at-i-requires c = rw c.width.ensures c.requires
-
 pub returns : goal.returns
 returns c =
     let i = c.item_at-i.ensures in

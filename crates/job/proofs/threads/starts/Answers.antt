@@ -1,11 +1,8 @@
-use Prim.Native.Nat.{◌≤◌, ◌<◌, ◌*◌}
+use Prim.Native.Nat.{◌<◌}
 use native.Mathlib.Omega.{arith}
-use Rattle.rules.specs.Limits.{byte_values, item_size}
-use Rattle.rules.specs.declared.Width.TheVariants.{Two}
-use Rattle.readers.specs.Passed.{count_in, variables_at}
-use Rattle.readers.proofs.Widths.{few_bytes}
+use Rattle.readers.specs.Passed.{count_in}
 use Rattle.job.specs.Laid.{ThreadsGood}
-use Rattle.job.proofs.ThreadLaws.{walked_none, walked_inside, walked_next, walked_all}
+use Rattle.job.proofs.ThreadLaws.{walked_none, walked_inside, walked_next}
 use Rattle.job.proofs.threads.starts.Goals as goal
 use Rattle.job.proofs.threads.starts.Goals.{After-from, At-loop-t, In-loop-t}
 
@@ -14,15 +11,6 @@ good c = c.requires
 
 below : (c : In-loop-t) → c.loop-t.t < count_in c.args.job.now
 below c = let count = c.from-count.ensures in omega arith
-
-few : (c : After-from) → c.value_size.result * c.from.result ≤ item_size Two * byte_values
-few c = few_bytes c.width-w.result _ _ (omega (arith, c.value_size.ensures)) (omega (arith, c.from.ensures, (c.type_inv.job variables_at).fits))
-
-pub overflow_mul-at : goal.overflow_mul-at
-overflow_mul-at c = omega (arith, few c)
-
-pub overflow_add-at : goal.overflow_add-at
-overflow_add-at c = omega (arith, few c)
 
 pub loop-t-init : goal.loop-t-init
 loop-t-init c =
@@ -35,8 +23,3 @@ pub loop-t-preserved : goal.loop-t-preserved
 loop-t-preserved c =
     let next = below (goal.at.loop-t-preserved c).In-loop-t in
     (omega arith, rw (c.behind-at.ensures, c.width-w.ensures) (walked_next (good (goal.at.loop-t-preserved c).At-loop-t) c.loop-t.invariant.1 next))
-
-pub returns : goal.returns
-returns c =
-    let count = c.from-count.ensures in
-    walked_all (good (goal.at.returns c).At-loop-t) c.loop-t.invariant.1 (omega arith)

@@ -23,9 +23,6 @@ returns-then-n-p c =
     let threads = (job_of a.self.now.bytes.now).threads in
     sym (at_of_at threads a.t a.p ∙ at_past (get_or threads a.t []) a.p (omega (arith, c.code_length-n.ensures)))
 
-pub instruction_start-at-requires : goal.instruction_start-at-requires
-instruction_start-at-requires c = rw c.threads.ensures.bytes (within (goal.at.instruction_start-at-requires c).Else-n-p)
-
 pub instruction_from-requires : goal.instruction_from-requires
 instruction_from-requires c =
     rw (c.instruction_start-at.ensures, c.threads.ensures.starts, c.threads.ensures.bytes) (place_inside c.args.self.now.laid.starts _ _ (within (goal.at.instruction_from-requires c).Else-n-p))

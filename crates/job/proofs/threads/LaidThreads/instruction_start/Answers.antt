@@ -21,15 +21,7 @@ passed_over : (c : After-from) →
     c.item_size.result * c.from.result ≡ item_size (width_in c.args.self.now.job.now) * c.args.p
 passed_over c = rw (c.item_size.ensures, c.width.ensures, c.from.ensures)
 
-pub overflow_mul-result : goal.overflow_mul-result
-overflow_mul-result c =
-    let inside = place_inside c.args.self.now.laid _ _ c.requires in
-    omega (arith, passed_over c)
-
 pub overflow_add-result-2 : goal.overflow_add-result-2
 overflow_add-result-2 c =
     let inside = place_inside c.args.self.now.laid _ _ c.requires in
     omega (arith, passed_over c)
-
-pub returns : goal.returns
-returns c = rw (passed_over c)
