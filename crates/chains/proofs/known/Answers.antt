@@ -1,18 +1,8 @@
 use Rattle.std.proofs.Common.{◌≡◌, ◌∙◌, suc, length, sym, ap, subst, true≢false, arith}
 use Rattle.lent.specs.Parts.{slot_at}
-use Rattle.chains.specs.Sums.{chain_below}
 use Rattle.chains.specs.Chains.{On}
 use Rattle.chains.specs.ChainLaws.{none_on, on_behind}
 use Rattle.chains.proofs.known.Goals as goal
-
-pub loop-slot-init : goal.loop-slot-init
-loop-slot-init c =
-    let chain = c.requires.chain_value in
-    let indexed = c.requires.indexed in
-    record {
-      counted = rw chain (indexed.firsts _ (chain_below c.args.bytes.now c.args.width c.requires.width_nonzero.0));
-      ahead = λ i few e. rw (chain, ← e) (indexed.found i few);
-    }
 
 pub loop-slot-preserved : goal.loop-slot-preserved
 loop-slot-preserved c =

@@ -2,18 +2,9 @@ use Rattle.std.proofs.Common.{◌≡◌, ◌+◌, ◌-◌, ◌*◌, ◌/◌, len
 use Rattle.std.proofs.lemmas.Slice.Eq.{slice_eq-Decides}
 use Rattle.std.proofs.lemmas.Bool.Decides.{Decides-eqb}
 use Rattle.span.specs.Span.{bytes_at}
-use Rattle.span.specs.SpanLaws.{found_more, told_apart, left_decides}
-use Rattle.span.specs.Pieces.{piece_size, same_piece, other_piece}
+use Rattle.span.specs.SpanLaws.{found_more, left_decides}
+use Rattle.span.specs.Pieces.{piece_size, same_piece}
 use Rattle.span.proofs.same_bytes.Goals as goal
-
-pub returns-then-piece : goal.returns-then-piece
-returns-then-piece c =
-    let given = c.args in
-    let found = piece_size * c.loop-i.i in
-    let differs =
-    other_piece given.table.now given.bytes.now (given.at + found) found (omega arith) (omega arith)
-    c.piece.ensures c.piece-in-loop-i.ensures c.if-piece.true in
-    told_apart given.table.now given.at given.bytes.now found piece_size (omega arith) (omega arith) differs
 
 pub loop-i-preserved : goal.loop-i-preserved
 loop-i-preserved c =

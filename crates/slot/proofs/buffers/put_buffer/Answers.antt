@@ -6,12 +6,6 @@ use Rattle.slot.specs.Bytes.{buffer_bytes}
 use Rattle.span.specs.SpanLaws.{laid_cons}
 use Rattle.slot.proofs.buffers.put_buffer.Goals as goal
 
-pub put_bytes-requires : goal.put_bytes-requires
-put_bytes-requires c = simp length-set (omega (arith, c.put_bytes-arg-3-1.given))
-
-pub shape_of-table : goal.shape_of-table
-shape_of-table c = c.put_bytes.auto.table ∙ simp length-set
-
 pub returns : goal.returns
 unfolding buffer_bytes
 returns c =
