@@ -19,7 +19,7 @@ impl Iterator for Members {
     ghost remaining = { λ s. at_most (count_of s.left) };
 
     fn next(&mut self) -> Option<u8> {
-        if self.left == 0 {
+        if count(self.left) == 0 {
             return None;
         }
         let s = lowest(self.left);
@@ -57,7 +57,7 @@ pub fn put(m: u64, x: u8) -> u64
     if x < 64 { m | (1 << x) } else { m }
 }
 
-// The lowest number of the set, 64 where it is empty: `Lowest` says so. (`each` gives an Option.)
+// The lowest number of the set, 64 where it is empty, as `Lowest` says.
 pub fn lowest(m: u64) -> u8
     ensures { Lowest m result }
 {

@@ -28,9 +28,9 @@ pub fn known(
     count: usize,
     bytes: &[u8],
 ) -> bool
-    requires count_in_bounds { length bytes.now * count ≤ length table.now }
-    requires width_nonzero { (0 < width) × (width + count ≤ length index.now) }
-    requires chain_value { chain ≡ chain_of bytes.now width }
+    requires in_table { length bytes.now * count ≤ length table.now }
+    requires in_index { (0 < width) × (width + count ≤ length index.now) }
+    requires on_chain { chain ≡ chain_of bytes.now width }
     requires indexed { Indexed (length bytes.now) table.now index.now width count }
     ensures { Looked (length bytes.now) table.now count bytes.now result }
 {

@@ -13,7 +13,7 @@ fn print_line(rt: &HostRuntime, answer: Result<Answer, Fault>) -> io::Result<()>
     }
 }
 
-// One case. It fails where the input ends, or has more than there is room for.
+// One case. It fails where the input ends, or has more than there is room for, or the line can't be written.
 fn run_case(rt: &HostRuntime) -> io::Result<()> {
     let mut room = [0u8; cases::JOB_ROOM];
     let count = cases::read_job(rt, &mut room)?;

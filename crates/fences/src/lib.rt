@@ -11,8 +11,7 @@ use job::Job;
 use readers::faults::Fault;
 use rules::{Control, Passing, Role};
 
-// What a fence check of an accepted job answers: no pair is open; the least open pair, its thread, store place and load place. (An Option would say
-// None for FENCED.)
+// What a fence check of an accepted job answers: no pair is open; the least open pair, its thread, store place and load place.
 #[derive(Clone, Copy)]
 pub enum Answer {
     Fenced,
@@ -113,7 +112,7 @@ impl<'a> Thread<'a> {
         met
     }
 
-    // All places to which one of the walks leads: looks, until one finds nothing new. (No index is counted, so it is no `for`.)
+    // All places to which one of the walks leads: looks, until one finds nothing new.
     fn places_met(&self, walks: Walks) -> u64
         ensures { Met walks.by (code self.now) walks.first result }
     {
@@ -126,7 +125,7 @@ impl<'a> Thread<'a> {
         met
     }
 
-    // Whether a load stands at place p, and was met. (The next but one is like it; a function for both would ask for a role and a test.)
+    // Whether a load stands at place p, and was met.
     fn is_met_load(&self, met: u64, p: u8) -> bool
         ensures { IsTrue result ↔ MetLoad (code self.now) met p }
     {
@@ -184,7 +183,7 @@ fn check_accepted(job: &Job) -> Answer
     ensures { FenceFor (job_of job.now.bytes.now).threads (answer_words result) }
 {
     for number in 0..job.layout.threads {
-        let thread = Thread { job: &*job, number };
+        let thread = Thread { job: &*job, number }; // lent again for each thread
         if let Some((store, load)) = thread.least_pair() {
             return Answer::Open(number, store, load);
         }

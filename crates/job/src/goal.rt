@@ -14,11 +14,11 @@ use rules::{Clause, FEWEST_CLAUSES, MOST_CLAUSES};
 
 // The bytes from `at` as a clause over the threads, if they are one.
 pub fn clause_from(threads: &LaidThreads, at: usize) -> Option<Clause>
-    requires { at + item_size (width_in threads.now.job.now) ≤ length threads.now.job.now }
+    requires { at + item_size (width_in threads.now.bytes.now) ≤ length threads.now.bytes.now }
     ensures { told result
-        ≡ clause_in_bytes threads.now.job.now (width_in threads.now.job.now) (vars_in threads.now.job.now) (threads_of threads.now.job.now) at }
+        ≡ clause_in_bytes threads.now.bytes.now (width_in threads.now.bytes.now) (vars_in threads.now.bytes.now) (threads_of threads.now.bytes.now) at }
 {
-    let job = threads.job;
+    let job = threads.bytes;
     let i = readers::item_at(job, tables::width(job[VERSION_AT]), at);
     let n = threads.length(i.a);
     tables::clause(job[VARIABLES_AT], job[THREADS_AT], n, i)
@@ -26,10 +26,10 @@ pub fn clause_from(threads: &LaidThreads, at: usize) -> Option<Clause>
 
 fn clause(threads: &LaidThreads, at: usize) -> Result<usize, Fault>
     ensures { came_to result
-        ≡ passed (file.clause threads.now.job.now (width_in threads.now.job.now) (vars_in threads.now.job.now) (threads_of threads.now.job.now) at) }
+        ≡ passed (file.clause threads.now.bytes.now (width_in threads.now.bytes.now) (vars_in threads.now.bytes.now) (threads_of threads.now.bytes.now) at) }
 {
-    let size = readers::item_size(tables::width(threads.job[VERSION_AT]));
-    if !readers::is_there(threads.job, at, size) {
+    let size = readers::item_size(tables::width(threads.bytes[VERSION_AT]));
+    if !readers::is_there(threads.bytes, at, size) {
         return Err(Refusal::NotWhole.at(at));
     }
     match clause_from(threads, at) {
@@ -40,9 +40,9 @@ fn clause(threads: &LaidThreads, at: usize) -> Result<usize, Fault>
 
 // The flag, K and as many clauses, and no byte more.
 pub fn goal(threads: &LaidThreads) -> Result<usize, Fault>
-    ensures { came_to result ≡ goal_stage threads.now.job.now threads.now.starts.now.goal }
+    ensures { came_to result ≡ goal_stage threads.now.bytes.now threads.now.starts.now.goal }
 {
-    let job = threads.job;
+    let job = threads.bytes;
     let count_at = readers::field(job, threads.starts.goal, Refusal::GoalBad, 0, LAST_FLAG)?;
     let first = readers::field(
         job,

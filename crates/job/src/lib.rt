@@ -51,14 +51,14 @@ fn behind_head(job: &[u8]) -> Result<usize, Fault>
         return Err(Refusal::NotWhole.at(HEAD_SIZE + size * whole));
     }
     Code {
-        job,
+        bytes: job,
         version: job[VERSION_AT],
         vars,
     }
     .threads(job[THREADS_AT], start)?;
     let starts = threads::starts(job);
     goal::goal(&LaidThreads {
-        job,
+        bytes: job,
         starts: &starts,
     })
 }

@@ -25,11 +25,11 @@ pub struct Job<'a> {
 
 impl<'a> Job<'a> {
     fn threads(&self) -> LaidThreads<'_>
-        ensures bytes { result.job.now ≡ self.now.bytes.now }
+        ensures bytes { result.bytes.now ≡ self.now.bytes.now }
         ensures starts { result.starts.now ≡ self.now.layout.starts }
     {
         LaidThreads {
-            job: self.bytes,
+            bytes: self.bytes,
             starts: &self.layout.starts,
         }
     }
@@ -51,7 +51,7 @@ impl<'a> Job<'a> {
         }
         let at = self.threads().instruction_start(t, p);
         let code = Code {
-            job: self.bytes,
+            bytes: self.bytes,
             version: self.bytes[VERSION_AT],
             vars: self.bytes[VARIABLES_AT],
         };

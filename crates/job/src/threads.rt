@@ -11,9 +11,9 @@ use rules::{HEAD_SIZE, THREADS, Width};
 // Threads that were good: the bytes of their job, and where they begin in them.
 #[derive(Clone, Copy)]
 pub struct LaidThreads<'a> {
-    pub job: &'a [u8],
+    pub bytes: &'a [u8],
     pub starts: &'a Starts,
-    pub ghost laid: { StartsLaid job.now starts.now },
+    pub ghost laid: { StartsLaid bytes.now starts.now },
 }
 
 // Behind the thread whose n stands at `at`: n, and then so many instructions.
@@ -43,10 +43,10 @@ pub fn starts(job: &[u8]) -> Starts
 impl<'a> LaidThreads<'a> {
     // A thread's n, 0 for a thread that the job doesn't have.
     pub fn length(&self, t: u8) -> u8
-        ensures { result ≡ length (get_or (threads_of self.now.job.now) t []) }
+        ensures { result ≡ length (get_or (threads_of self.now.bytes.now) t []) }
     {
-        if t < self.job[THREADS_AT] {
-            self.job[self.starts.threads[t as usize]]
+        if t < self.bytes[THREADS_AT] {
+            self.bytes[self.starts.threads[t as usize]]
         } else {
             0
         }
@@ -54,11 +54,11 @@ impl<'a> LaidThreads<'a> {
 
     // Where the instruction at place p of thread t begins.
     pub fn instruction_start(&self, t: u8, p: u8) -> usize
-        requires { p < length (get_or (threads_of self.now.job.now) t []) }
-        ensures { result ≡ get_or self.now.starts.now.threads t 0 + 1 + item_size (width_in self.now.job.now) * p }
+        requires { p < length (get_or (threads_of self.now.bytes.now) t []) }
+        ensures { result ≡ get_or self.now.starts.now.threads t 0 + 1 + item_size (width_in self.now.bytes.now) * p }
     {
         self.starts.threads[t as usize]
             + 1
-            + readers::item_size(tables::width(self.job[VERSION_AT])) * usize::from(p)
+            + readers::item_size(tables::width(self.bytes[VERSION_AT])) * usize::from(p)
     }
 }

@@ -1,5 +1,4 @@
-// What an instruction is to control, to its thread's buffer and to the fence check: a row for each operation, alone where rows are equal too, as an
-// edit changes one of them.
+// What an instruction is to control, to its thread's buffer and to the fence check: a row for each operation.
 #![tactic(auto)]
 
 ghost use Rattle.std.specs.Prelude.{◌≡◌};

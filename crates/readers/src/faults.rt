@@ -2,6 +2,8 @@
 ghost use Rattle.std.specs.Prelude.{◌≡◌, ◌++◌, ◌∷◌, decimal, Some};
 ghost use Rattle.readers.specs.Refusals.{number_of};
 
+use std::fmt;
+
 // In the order of their numbers.
 #[derive(Clone, Copy, PartialEq, Eq)]
 pub enum Refusal {
@@ -22,8 +24,6 @@ pub enum Refusal {
     NoSlots,
 }
 
-use std::fmt;
-
 // The number by which a refusal is given.
 impl From<Refusal> for u64 {
     ghost from_gives = { λ refusal number. number ≡ number_of refusal };
@@ -41,7 +41,7 @@ impl From<Refusal> for u64 {
     }
 }
 
-// Why bytes are none of a job, and where that shows.
+// A refusal, and the offset at which it is given.
 #[derive(Clone, Copy, PartialEq, Eq)]
 pub struct Fault {
     pub refusal: Refusal,

@@ -205,7 +205,7 @@ pub fn times<F: Fn(usize) -> Result<usize, Fault>>(
 // The threads of a file whose head has this version and so many variables.
 #[derive(Clone, Copy)]
 pub struct Code<'a> {
-    pub job: &'a [u8],
+    pub bytes: &'a [u8],
     pub version: u8,
     pub vars: u8,
 }
@@ -213,18 +213,18 @@ pub struct Code<'a> {
 impl<'a> Code<'a> {
     // The bytes from `at` as an instruction of a thread of length n, if they are one.
     pub fn instruction_from(&self, n: u8, at: usize) -> Option<Instr>
-        requires { at + item_size (width_of self.now.version) ≤ length self.now.job.now }
-        ensures { told result ≡ instruction_in_bytes self.now.job.now self.now.version self.now.vars n at }
+        requires { at + item_size (width_of self.now.version) ≤ length self.now.bytes.now }
+        ensures { told result ≡ instruction_in_bytes self.now.bytes.now self.now.version self.now.vars n at }
     {
-        let i = item_at(self.job, tables::width(self.version), at);
+        let i = item_at(self.bytes, tables::width(self.version), at);
         tables::instruction(self.version, self.vars, n, i)
     }
 
     fn instruction(&self, n: u8, at: usize) -> Result<usize, Fault>
-        ensures { came_to result ≡ passed (file.instruction self.now.job.now self.now.version self.now.vars n at) }
+        ensures { came_to result ≡ passed (file.instruction self.now.bytes.now self.now.version self.now.vars n at) }
     {
         let size = item_size(tables::width(self.version));
-        if !is_there(self.job, at, size) {
+        if !is_there(self.bytes, at, size) {
             return Err(Refusal::NotWhole.at(at));
         }
         match self.instruction_from(n, at) {
@@ -235,15 +235,15 @@ impl<'a> Code<'a> {
 
     // n, and then as many instructions.
     fn thread(&self, at: usize) -> Result<usize, Fault>
-        ensures { came_to result ≡ passed (file.thread self.now.job.now self.now.version self.now.vars at) }
+        ensures { came_to result ≡ passed (file.thread self.now.bytes.now self.now.version self.now.vars at) }
     {
-        let next = field(self.job, at, Refusal::ThreadBad, 0, LONGEST_THREAD)?;
-        let n = self.job[at];
+        let next = field(self.bytes, at, Refusal::ThreadBad, 0, LONGEST_THREAD)?;
+        let n = self.bytes[at];
         times(n, next, |at| self.instruction(n, at))
     }
 
     pub fn threads(&self, count: u8, start: usize) -> Result<usize, Fault>
-        ensures { came_to result ≡ passed (file.times count (file.thread self.now.job.now self.now.version self.now.vars) start) }
+        ensures { came_to result ≡ passed (file.times count (file.thread self.now.bytes.now self.now.version self.now.vars) start) }
     {
         times(count, start, |at| self.thread(at))
     }

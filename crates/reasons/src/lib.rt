@@ -14,7 +14,7 @@ pub fn needs(test: bool, why: Reason) -> Result<(), Reason>
     if test { Ok(()) } else { Err(why) }
 }
 
-// The number by which a reason is given. (No `From`: that stands where the type does, in `rules`, which has no code.)
+// The number by which a reason is given.
 pub fn number_of(why: Reason) -> u64
     ensures { result ≡ number_of why }
 {

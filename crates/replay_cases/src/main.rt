@@ -18,7 +18,7 @@ fn print_line(rt: &HostRuntime, answer: Result<Answer, Fault>) -> io::Result<()>
     }
 }
 
-// One case. It fails where the input ends, or has more than there is room for.
+// One case. It fails where the input ends, or has more than there is room for, or the line can't be written.
 fn run_case(rt: &HostRuntime) -> io::Result<()> {
     let mut schedule = [0u8; SCHEDULE_ROOM];
     let mut job = [0u8; cases::JOB_ROOM];

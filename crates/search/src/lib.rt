@@ -112,7 +112,7 @@ fn find_goal(table: &[u8], lo: usize, count: usize, job: &Job) -> Option<usize>
 }
 
 // A turn judges a level that is whole, and then expands its states: those from slot `mark` on, which are at distance d. How many turns there are is not
-// known before, so it is no `for`.
+// known before.
 fn turns(
     table: &mut [u8],
     links: &mut [u32],

@@ -163,7 +163,7 @@ fn run_search(rt: &HostRuntime, sizes: Sizes, job: &[u8]) -> io::Result<()> {
     Ok(())
 }
 
-// One case. It fails where the input ends, or asks for more than there is.
+// One case. It fails where the input ends, or asks for more than there is, or a line can't be written.
 fn run_case(rt: &HostRuntime) -> io::Result<()> {
     let mut job = [0u8; cases::JOB_ROOM];
     let sizes = read_sizes(rt)?;

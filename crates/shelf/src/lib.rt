@@ -1,6 +1,6 @@
 // The lent memory of a search, whatever is searched: a candidate looked up among the slots and put as a slot's bytes, and the schedule written
 // from the links. Where an index is lent, its width is the number of its chains; where none is, it is 0: the promises are stated over that number
-// (`specs/Front` `Ready`), so it is no Option.
+// (`specs/Front` `Ready`).
 #![tactic(auto)]
 
 ghost use Rattle.std.specs.Prelude.{◌≡◌, false, ◌++◌, ◌+◌, ◌*◌, ◌≤◌, ◌<◌, length, drop};
@@ -10,8 +10,7 @@ ghost use Rattle.chains.specs.Sums.{word_values};
 ghost use Rattle.chains.specs.Chains.{entered};
 ghost use Rattle.shelf.specs.Front.{Ready, OnChain, Fits, PutDone};
 
-// How many slots are counted, and whether a state was met for which none was left: both, as the memory of `lent/specs/Parts` has them. So it is no
-// Result: where a state was left out, the count is asked for too.
+// How many slots are counted, and whether a state was met for which none was left: both, as the memory of `lent/specs/Parts` has them.
 #[derive(Clone, Copy)]
 pub struct Front {
     pub count: usize,
@@ -19,7 +18,7 @@ pub struct Front {
 }
 
 // The link of slot 0.
-pub const NO_LINK: u32 = 4294967295;
+pub const NO_LINK: u32 = u32::MAX;
 
 // Whether one of the counted slots holds the bytes: from the newest back, since a state that is met again was most often met not long ago.
 fn known(table: &[u8], count: usize, bytes: &[u8]) -> bool
@@ -56,7 +55,7 @@ fn looked_up(
     count: usize,
     bytes: &[u8],
 ) -> bool
-    requires count_in_bounds { (length bytes.now * count ≤ length table.now) × (count ≤ slots) }
+    requires in_table { (length bytes.now * count ≤ length table.now) × (count ≤ slots) }
     requires ready { Ready (length bytes.now) slots table.now index.now width count }
     requires on_chain { OnChain bytes.now width chain }
     ensures { Looked (length bytes.now) table.now count bytes.now result }
@@ -132,7 +131,9 @@ pub fn put_first(
     link: u32,
 ) -> Front
     requires fits { Fits (length bytes.now) slots table.old links.old index.old width nothing }
-    requires full_value { (nothing.full ≡ false) × (nothing.count ≡ 0) × (0 < slots) }
+    requires none_left_out { nothing.full ≡ false }
+    requires none_counted { nothing.count ≡ 0 }
+    requires some_slot { 0 < slots }
     ensures { PutDone (length bytes.now) slots table.old links.old nothing bytes.now link
         table.new links.new index.new width result }
 {

@@ -6,5 +6,5 @@ use Rattle.shelf.proofs.put_first.Goals as goal
 pub returns : goal.returns
 returns c =
     let left : ¬ (c.args.nothing.count ≡ c.args.slots) = omega arith in
-    put_new _ _ _ _ _ _ _ _ _ _ _ c.requires.fits c.requires.full_value.0 (λ known. omega (arith, known.1, c.requires.full_value.1)) left c.put_bytes.ensures.is
+    put_new _ _ _ _ _ _ _ _ _ _ _ c.requires.fits c.requires.none_left_out (λ known. omega (arith, known.1, c.requires.none_counted)) left c.put_bytes.ensures.is
     c.chain_of-chain.ensures c.enter.ensures c.enter.auto.index

@@ -14,11 +14,11 @@ use Rattle.job.proofs.goal.clause.Goals as goal
 use Rattle.job.proofs.goal.clause.Goals.{After-is_there, Else-not-is_there}
 
 -- the bytes asked for are those of an item
-asked : (c : After-is_there) → c.item_size-size.result ≡ item_size (width_in c.args.threads.now.job.now)
+asked : (c : After-is_there) → c.item_size-size.result ≡ item_size (width_in c.args.threads.now.bytes.now)
 asked c = c.item_size-size.ensures ∙ ap item_size c.width.ensures
 
 there :
-    (c : Else-not-is_there) → let job = c.args.threads.now.job.now in c.args.at + item_size (width_in job) ≤ length job
+    (c : Else-not-is_there) → let job = c.args.threads.now.bytes.now in c.args.at + item_size (width_in job) ≤ length job
 there c = rw (← (c.item_size-size.ensures ∙ ap item_size c.width.ensures)) (leb-true _ _ (sym c.is_there.ensures ∙ c.if-not-is_there.false))
 
 pub returns-in-Some : goal.returns-in-Some

@@ -29,7 +29,7 @@ bounds-job-count_at c = field_passed _ _ _ _ _ (sym c.in_ok-first.ensures)
 
 -- how far the clauses come
 clauses_came : (c : After-times) →
-    let job = c.args.threads.now.job.now in
+    let job = c.args.threads.now.bytes.now in
     came_to c.times.result
     ≡ passed (times (get_or job c.in_ok-count_at.count_at 0) (clause job (width_in job) (vars_in job) (threads_of job)) c.in_ok-first.first)
 clauses_came c = c.times.ensures _ (λ at x fits called. search rules) ∙ times_repeated _ _ _

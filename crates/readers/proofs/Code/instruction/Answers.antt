@@ -17,7 +17,7 @@ asked : (c : After-is_there) → c.item_size-size.result ≡ item_size (width_of
 asked c = c.item_size-size.ensures ∙ ap item_size c.width.ensures
 
 there :
-    (c : Else-not-is_there) → c.args.at + item_size (width_of c.args.self.now.version) ≤ length c.args.self.now.job.now
+    (c : Else-not-is_there) → c.args.at + item_size (width_of c.args.self.now.version) ≤ length c.args.self.now.bytes.now
 there c = rw (← (c.item_size-size.ensures ∙ ap item_size c.width.ensures)) (leb-true _ _ (sym c.is_there.ensures ∙ c.if-not-is_there.false))
 
 pub returns-in-Some : goal.returns-in-Some

@@ -14,4 +14,4 @@ returns-in_err-next c =
     let e = c.from_residual.ensures.1 in came_to_err _ _ e ∙ rw (thread_passed _ _ _ _, ← c.in_err-next.ensures)
 
 pub returns : goal.returns
-returns c = rw (thread_passed _ _ _ _, ← c.in_ok-next.ensures) (c.times.ensures _ (λ at x fits called. search rules) ∙ times_repeated (instruction c.args.self.now.job.now c.args.self.now.version c.args.self.now.vars _) _ _)
+returns c = rw (thread_passed _ _ _ _, ← c.in_ok-next.ensures) (c.times.ensures _ (λ at x fits called. search rules) ∙ times_repeated (instruction c.args.self.now.bytes.now c.args.self.now.version c.args.self.now.vars _) _ _)

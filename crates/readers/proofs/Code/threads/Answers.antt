@@ -6,4 +6,4 @@ use Rattle.readers.proofs.Readers.{times_repeated}
 use Rattle.readers.proofs.Code.threads.Goals as goal
 
 pub returns : goal.returns
-returns c = c.times.ensures _ (λ at x fits called. search rules) ∙ times_repeated (thread c.args.self.now.job.now c.args.self.now.version c.args.self.now.vars) _ _
+returns c = c.times.ensures _ (λ at x fits called. search rules) ∙ times_repeated (thread c.args.self.now.bytes.now c.args.self.now.version c.args.self.now.vars) _ _

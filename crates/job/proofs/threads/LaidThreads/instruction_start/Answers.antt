@@ -18,7 +18,7 @@ overflow_add-result c = let inside = place_inside c.args.self.now.laid _ _ c.req
 
 -- the instructions before the place
 passed_over : (c : After-from) →
-    c.item_size.result * c.from.result ≡ item_size (width_in c.args.self.now.job.now) * c.args.p
+    c.item_size.result * c.from.result ≡ item_size (width_in c.args.self.now.bytes.now) * c.args.p
 passed_over c = rw (c.item_size.ensures, c.width.ensures, c.from.ensures)
 
 pub overflow_add-result-2 : goal.overflow_add-result-2

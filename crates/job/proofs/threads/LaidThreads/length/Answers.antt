@@ -18,4 +18,4 @@ returns-then-t-self c =
 pub returns-else-t-self : goal.returns-else-t-self
 returns-else-t-self c =
     let number = threads_number _ (starts_good c.args.self.now.laid) in
-    sym (ap length (get_or-eq_default (threads_of c.args.self.now.job.now) [] {n = c.args.t} (omega arith)))
+    sym (ap length (get_or-eq_default (threads_of c.args.self.now.bytes.now) [] {n = c.args.t} (omega arith)))
