@@ -17,8 +17,7 @@ use Rattle.rules.specs.declared.Model.TheVariants.{Sc, Tso, Pso}
 use Rattle.rules.specs.declared.Instr.{Instr}
 use Rattle.rules.specs.declared.Clause.{Clause}
 use Rattle.job.specs.declared.Starts.{Starts}
-use Rattle.readers.specs.Passed.{At, Fault}
-use Rattle.readers.specs.Passed.{version_at, model_at, capacity_at, threads_at, variables_at, count_in, version_in, vars_in, model_in, passed, listed, then}
+use Rattle.readers.specs.Passed.{At, Fault, version_at, model_at, capacity_at, threads_at, variables_at, count_in, version_in, vars_in, model_in, passed, listed, then}
 use Rattle.readers.specs.Stages.{length_stage, head_stage}
 use Rattle.job.specs.Passed.{answer, answer_of}
 use Rattle.job.specs.Stages.{width_in, values_end, threads_read, threads_of, rest_stage}

@@ -13,9 +13,7 @@ use Rattle.rules.specs.Job.{Job}
 use Rattle.rules.specs.File.{Read, got, fault, Reader, read_on, ◌>>=◌, times, judged, field, in_range, model_of, flag_of, clause_count_of, value, clause, initial_value, ended, fields}
 use Rattle.rules.specs.declared.Width.{Width}
 use Rattle.rules.specs.declared.Clause.{Clause}
-use Rattle.readers.specs.Passed.{Next}
-use Rattle.readers.specs.Passed.{At, Fault}
-use Rattle.readers.specs.Passed.{version_at, model_at, capacity_at, threads_at, variables_at, vars_in, passed, listed, then}
+use Rattle.readers.specs.Passed.{Next, At, Fault, version_at, model_at, capacity_at, threads_at, variables_at, vars_in, passed, listed, then}
 use Rattle.readers.specs.Stages.{length_stage, capacity_stage, head_stage}
 use Rattle.job.specs.Stages.{width_in, values_stage, values_end, threads_read, threads_of, ending, clauses_stage, goal_stage, rest_stage}
 use Rattle.job.specs.Laid.{HeadGood}

@@ -12,8 +12,7 @@ use Rattle.rules.specs.Limits.{most_threads, longest_thread, item_size}
 use Rattle.rules.specs.File.{got, byte, instruction, thread}
 use Rattle.rules.specs.declared.Instr.{Instr}
 use Rattle.job.specs.declared.Starts.{Starts}
-use Rattle.readers.specs.Passed.{At}
-use Rattle.readers.specs.Passed.{count_in, version_in, vars_in, passed, instruction_in_bytes}
+use Rattle.readers.specs.Passed.{At, count_in, version_in, vars_in, passed, instruction_in_bytes}
 use Rattle.job.specs.Stages.{width_in, values_end, threads_read, threads_of}
 use Rattle.job.specs.Laid.{ThreadsGood, StartsLaid}
 use Rattle.readers.proofs.Widths.{one_fits}

@@ -8,12 +8,10 @@ use Rattle.rules.specs.declared.Model.{Model}
 use Rattle.job.specs.declared.Layout.{Layout}
 use Rattle.job.specs.declared.parts.Job.{Job}
 use Rattle.job.specs.declared.Starts.{Starts}
-use Rattle.readers.specs.Passed.{At}
-use Rattle.job.specs.Passed.{Accepted, Refused}
-use Rattle.readers.specs.Passed.{count_in}
+use Rattle.readers.specs.Passed.{At, count_in}
+use Rattle.job.specs.Passed.{Accepted, Refused, came_out, answer_of}
 use Rattle.readers.specs.declared.faults.Fault.{Fault}
 use Rattle.readers.specs.Refusals.{number_of, number_once}
-use Rattle.job.specs.Passed.{came_out, answer_of}
 use Rattle.job.specs.Laid.{StartsLaid, AcceptedUnder, IsAccepted}
 
 -- bytes that the decoder accepts hold a job, and its model is the one given

@@ -10,8 +10,7 @@ use Rattle.rules.specs.declared.Clause.{Clause}
 use Rattle.rules.specs.declared.Model.{Model}
 use Rattle.job.specs.declared.Layout.{Layout}
 use Rattle.job.specs.declared.Starts.{Starts}
-use Rattle.readers.specs.Passed.{At}
-use Rattle.readers.specs.Passed.{count_in, vars_in, passed}
+use Rattle.readers.specs.Passed.{At, count_in, vars_in, passed}
 use Rattle.job.specs.Passed.{clause_in_bytes}
 use Rattle.job.specs.Stages.{width_in, threads_read, threads_of}
 

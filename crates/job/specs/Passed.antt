@@ -9,9 +9,7 @@ use Rattle.rules.specs.declared.Instr.{Instr}
 use Rattle.rules.specs.declared.Clause.{Clause}
 use Rattle.readers.specs.declared.faults.Fault as faults
 use Rattle.readers.specs.Refusals.{number_of}
-use Rattle.readers.specs.Passed.{Next}
-use Rattle.readers.specs.Passed.{At, Fault}
-use Rattle.readers.specs.Passed.{model_at}
+use Rattle.readers.specs.Passed.{Next, At, Fault, model_at}
 
 abbrev pub clause_in_bytes : List ℕ → Width → (vars : ℕ) → List (List Instr) → (at : ℕ) → Option Clause
 clause_in_bytes bytes w vars threads at =

@@ -4,9 +4,7 @@ use Rattle.rules.specs.Limits.{head_size, width_of, value_size}
 use Rattle.rules.specs.File.{Read, times, field, flag_of, clause_count_of, thread, clause, initial_value}
 use Rattle.rules.specs.declared.Width.{Width}
 use Rattle.rules.specs.declared.Instr.{Instr}
-use Rattle.readers.specs.Passed.{Next}
-use Rattle.readers.specs.Passed.{At, Fault}
-use Rattle.readers.specs.Passed.{count_in, version_in, vars_in, passed, listed, then, chain}
+use Rattle.readers.specs.Passed.{Next, At, Fault, count_in, version_in, vars_in, passed, listed, then, chain}
 
 module _ (bytes : List ℕ) where
   -- how wide the job's values are

@@ -12,8 +12,7 @@ use Rattle.rules.specs.Limits.{longest_thread}
 use Rattle.rules.specs.Step.{given}
 use Rattle.rules.specs.Tests.{both}
 use Rattle.rules.specs.File.{Reader, got, fault, ◌>>=◌, judged, byte, item, field, in_range, model_of, flag_of, thread, instruction, times}
-use Rattle.readers.specs.Passed.{At, Fault}
-use Rattle.readers.specs.Passed.{passed, chain}
+use Rattle.readers.specs.Passed.{At, Fault, passed, chain}
 use Rattle.readers.proofs.Readers.{item_missing, item_there, item_got, got_of_passed, passed_then, then_got}
 
 -- whether there is a value

@@ -10,14 +10,12 @@ use lib.Dec.{leb}
 use lib.ListN.{length, get_elem?}
 use Rattle.reach.specs.ListLaws.{at_in, below_at}
 use Rattle.rules.specs.File.{Read, got, fault, Reader, read_on, ◌>>=◌, done, times, judged, item}
-use Rattle.readers.specs.Passed.{Next}
-use Rattle.readers.specs.Passed.{At, Fault}
+use Rattle.readers.specs.Passed.{Next, At, Fault, came_to, passed, listed, chain, then, repeated}
 use Rattle.std.specs.Prelude.{Result, Err}
 use Rattle.std.specs.Result.{IsErrAnd}
 use Rattle.std.proofs.lemmas.Result.{err_from_is_err_and}
 use Rattle.readers.specs.declared.faults.Fault as faults
 use Rattle.readers.specs.Refusals.{number_of}
-use Rattle.readers.specs.Passed.{came_to, passed, listed, chain, then, repeated}
 
 -- a fault that is handed on is the same fault
 pub handed_on : {T : Type 0} (x : Result T faults.Fault) (f : faults.Fault) → IsErrAnd x (λ e. e ≡ f) → x ≡ Err f

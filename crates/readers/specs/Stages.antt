@@ -4,9 +4,7 @@ use Rattle.std.proofs.Math.Option.{Option, none, some}
 use Rattle.rules.specs.Limits.{first_version, last_version, most_threads, most_variables}
 use Rattle.rules.specs.File.{field, in_range, model_of, capacity_of, length_ok}
 use Rattle.rules.specs.declared.Model.{Model}
-use Rattle.readers.specs.Passed.{Next}
-use Rattle.readers.specs.Passed.{At, Fault}
-use Rattle.readers.specs.Passed.{version_at, model_at, capacity_at, threads_at, variables_at, model_in, passed, then}
+use Rattle.readers.specs.Passed.{Next, At, Fault, version_at, model_at, capacity_at, threads_at, variables_at, model_in, passed, then}
 
 module _ (bytes : List ℕ) where
   -- "1 is judged first"

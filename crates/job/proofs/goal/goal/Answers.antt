@@ -1,8 +1,7 @@
 -- `job::goal::goal` meets its contract: the flag, K and as many clauses over the threads, and no byte more.
 use Rattle.std.proofs.Common.{rules}
-use mathlib.Core.Path.{sym, ◌∙◌}
+use mathlib.Core.Path.{sym, ◌∙◌, ◌≡◌}
 use borrow.Author.Tests.{eq-eqb, ne_eqb}
-use mathlib.Core.Path.{◌≡◌}
 use lib.ListN.{get_or}
 use Rattle.rules.specs.File.{in_range, flag_of, times, clause}
 use Rattle.readers.specs.Passed.{vars_in, came_to, passed}
