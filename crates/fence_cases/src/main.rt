@@ -13,11 +13,12 @@ fn print_line(rt: &HostRuntime, answer: Result<Answer, Fault>) -> io::Result<()>
     }
 }
 
-// One case. It fails where the input ends, or has more than there is room for, or the line can't be written.
+// One case. It fails where the input ends, or has more than there is room for. A line that can't be written is left out.
 fn run_case(rt: &HostRuntime) -> io::Result<()> {
     let mut room = [0u8; cases::JOB_ROOM];
     let count = cases::read_job(rt, &mut room)?;
-    print_line(rt, fences::fences(&room[..count]))
+    let _ = print_line(rt, fences::fences(&room[..count]));
+    Ok(())
 }
 
 // Case by case, until one fails. A proved loop has to end, so it counts, to a number that no run comes to.

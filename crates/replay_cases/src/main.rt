@@ -18,14 +18,15 @@ fn print_line(rt: &HostRuntime, answer: Result<Answer, Fault>) -> io::Result<()>
     }
 }
 
-// One case. It fails where the input ends, or has more than there is room for, or the line can't be written.
+// One case. It fails where the input ends, or has more than there is room for. A line that can't be written is left out.
 fn run_case(rt: &HostRuntime) -> io::Result<()> {
     let mut schedule = [0u8; SCHEDULE_ROOM];
     let mut job = [0u8; cases::JOB_ROOM];
     let steps = cases::read_long(rt)? as usize;
     let count = cases::read_job(rt, &mut job)?;
     cases::read_front(rt, &mut schedule, steps)?;
-    print_line(rt, replay::replay(&job[..count], &schedule[..steps]))
+    let _ = print_line(rt, replay::replay(&job[..count], &schedule[..steps]));
+    Ok(())
 }
 
 // Case by case, until one fails. A proved loop has to end, so it counts, to a number that no run comes to.

@@ -128,8 +128,8 @@ fn unchanged_from(answer: Result<Answer, Fault>, lent: usize) -> usize
     if answer.is_err() { 0 } else { lent }
 }
 
-// The search with the front of each memory lent; the sums are over all of it, lent or not.
-fn run_search(rt: &HostRuntime, sizes: Sizes, job: &[u8]) -> io::Result<()> {
+// The search with the front of each memory lent; the sums are over all of it, lent or not. A line that can't be written is left out.
+fn run_search(rt: &HostRuntime, sizes: Sizes, job: &[u8]) {
     let mut table = [0u8; TABLE_ROOM];
     let mut links = [0u32; LINKS_ROOM];
     let mut schedule = [0u8; SCHEDULE_ROOM];
@@ -150,25 +150,25 @@ fn run_search(rt: &HostRuntime, sizes: Sizes, job: &[u8]) -> io::Result<()> {
         }
     };
 
-    print_answer(rt, answer)?;
-    println!(rt;
+    let _ = print_answer(rt, answer);
+    let _ = println!(rt;
         "SUMS {} {} {}",
         sum_of(&table),
         sum_of(&links),
         sum_of(&schedule)
-    )?;
+    );
     if let Some(size) = sizes.index {
-        println!(rt; "INDEX {}", sum_of(&index[unchanged_from(answer, size)..]))?;
+        let _ = println!(rt; "INDEX {}", sum_of(&index[unchanged_from(answer, size)..]));
     }
-    Ok(())
 }
 
-// One case. It fails where the input ends, or asks for more than there is, or a line can't be written.
+// One case. It fails where the input ends, or asks for more than there is.
 fn run_case(rt: &HostRuntime) -> io::Result<()> {
     let mut job = [0u8; cases::JOB_ROOM];
     let sizes = read_sizes(rt)?;
     let count = cases::read_job(rt, &mut job)?;
-    run_search(rt, sizes, &job[..count])
+    run_search(rt, sizes, &job[..count]);
+    Ok(())
 }
 
 // Case by case, until one fails. A proved loop has to end, so it counts, to a number that no run comes to.
