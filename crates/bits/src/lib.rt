@@ -5,10 +5,12 @@ ghost use Rattle.std.specs.Prelude.{◌≡◌, ◌+◌, eqb};
 ghost use Rattle.std.specs.Iterator.{at_most};
 ghost use Rattle.bits.specs.Bits.{bit_of, weight, count_of, Behind, Lowest, WithoutLowest, Counted, Put, Next};
 
-// The numbers of a set that are still to come, from the lowest up.
+// The numbers of a set that are still to come, from the lowest up, and how many they are: so many tries are left.
 #[derive(Drop)]
 pub struct Members {
     left: u64,
+    tries: u32,
+    ghost counted: { Counted left tries },
 }
 
 impl Iterator for Members {
@@ -19,20 +21,25 @@ impl Iterator for Members {
     ghost remaining = { λ s. at_most (count_of s.left) };
 
     fn next(&mut self) -> Option<u8> {
-        if count(self.left) == 0 {
+        if self.tries == 0 {
             return None;
         }
         let s = lowest(self.left);
         self.left = without_lowest(self.left);
+        self.tries -= 1;
         Some(s)
     }
 }
 
-// The numbers of the set, from the lowest up.
+// The numbers of the set, from the lowest up: as many as it has ones.
 pub fn each(m: u64) -> Members
-    ensures { result.left ≡ m }
+    ensures left { result.left ≡ m }
+    ensures tries { Counted m result.tries }
 {
-    Members { left: m }
+    Members {
+        left: m,
+        tries: count(m),
+    }
 }
 
 // The set with s, if on: so a loop from the lowest number up builds a set from its tests.

@@ -1,11 +1,12 @@
 -- The places to which walks lead from one place, as a set that grows: what it has is met, and at rest it has all.
-use Rattle.std.specs.Prelude.{◌≡◌, refl, ◌⊎◌, Option, None, Some, List, [], ◌∷◌, ℕ, ◌+◌, ◌≤◌, ◌<◌, length, get_or}
-use Rattle.std.proofs.Common.{sym, subst, inl, inr, eq-or-lt_of_le, arith}
+use Rattle.std.specs.Prelude.{◌≡◌, refl, ◌⊎◌, ◌↔◌, Bool, true, false, IsTrue, Option, None, Some, List, [], ◌∷◌, ℕ, ◌+◌, ◌≤◌, ◌<◌, eqb, length, get_or}
+use Rattle.std.proofs.Common.{sym, ◌∙◌, subst, inl, inr, eq-or-lt_of_le, arith, eqb-true, eq-eqb, below_more}
+use Rattle.std.proofs.lemmas.Bool.{false≢true}
 use Rattle.std.proofs.Math.Option.{none}
 use Rattle.std.proofs.Math.ListN.{get_elem?}
 use Rattle.reach.specs.Lists.{◌∈◌}
 use Rattle.reach.specs.ListLaws.{all_get_or, at_below, at_get_or, below_at}
-use Rattle.bits.specs.Bits.{width, Has, Put}
+use Rattle.bits.specs.Bits.{width, bit_of, Has, Put}
 use Rattle.bits.specs.BitLaws.{bit_of_zero}
 use Rattle.rules.specs.Limits.{longest_thread}
 use Rattle.rules.specs.File.{job_of}
@@ -31,6 +32,21 @@ pub short : (bytes : List ℕ) (t : ℕ) → JobIn (job_of bytes) → length (th
 short bytes t ok =
     let most = all_get_or (λ code. length code ≤ longest_thread) (job_of bytes).threads t [] ok.lengths (omega arith) in
     omega arith
+
+-- The answer to a question: true exactly when it holds.
+
+pub tells_yes : {P : Type 0} → P → (IsTrue true ↔ P)
+tells_yes p = (λ e. p, λ q. refl)
+
+pub tells_no : {P : Type 0} → ¬ P → (IsTrue false ↔ P)
+tells_no n = (λ e. absurd (false≢true e), λ p. absurd (n p))
+
+pub tells_has : (b : Bool) (m p : ℕ) → b ≡ eqb (bit_of m p) 1 → (IsTrue b ↔ Has m p)
+tells_has b m p e = (λ d. eqb-true _ _ (sym e ∙ d), λ h. e ∙ eq-eqb _ _ h)
+
+-- the same question in other words
+pub tells_same : {b : Bool} {P Q : Type 0} → (P → Q) → (Q → P) → (IsTrue b ↔ P) → (IsTrue b ↔ Q)
+tells_same f g t = (λ e. f (t.0 e), λ q. t.1 (g q))
 
 -- a set with some numbers more; of these a word has those below its width
 pub record Joined (qs : List ℕ) (m r : ℕ) : Type 0 where
@@ -179,6 +195,10 @@ module _ (by : Passing) (code : List Instr) (s : ℕ) where
 
 -- The least.
 
+-- what holds of all numbers below p and of p
+pub all_so_far : (P : ℕ → Type 0) (p : ℕ) → ((i : ℕ) → i < p → P i) → P p → (i : ℕ) → i < p + 1 → P i
+all_so_far P p before this = below_more P p before this
+
 -- r is the least number below n of which P holds
 pub record Least (P : ℕ → Type 0) (n r : ℕ) : Type 0 where
   pub within : r < n
@@ -189,6 +209,9 @@ pub record Least (P : ℕ → Type 0) (n r : ℕ) : Type 0 where
 abbrev pub LeastBelow : (P : ℕ → Type 0) → ℕ → Option ℕ → Type 0
 LeastBelow P n None = (i : ℕ) → i < n → ¬ (P i)
 LeastBelow P n (Some r) = Least P n r
+
+pub none_below : (P : ℕ → Type 0) (n r : ℕ) → r ≡ n → ((i : ℕ) → i < r → ¬ (P i)) → LeastBelow P n None
+none_below P n r e before = λ i l. before i (omega arith)
 
 -- a load that was met
 abbrev pub MetLoad : List Instr → ℕ → ℕ → Type 0
@@ -201,6 +224,13 @@ FromPlaceZero code live = Met Anything code 0 live
 -- a place that can be reached: place 0, or one that was met from there
 abbrev pub LiveBy : (live p : ℕ) → Type 0
 LiveBy live p = (p ≡ 0) ⊎ Has live p
+
+pub tells_live : (live p : ℕ) → ¬ (p ≡ 0) → {b : Bool} → (IsTrue b ↔ Has live p) → (IsTrue b ↔ LiveBy live p)
+tells_live live p later = tells_same inr back
+  where
+    back : LiveBy live p → Has live p
+    back (inl e) = absurd (later e)
+    back (inr h) = h
 
 -- a store that counts
 abbrev pub LiveStore : List Instr → (live p : ℕ) → Type 0
@@ -253,6 +283,18 @@ pub record LeastPair (code : List Instr) (s l : ℕ) : Type 0 where
 abbrev pub PairMeans : List Instr → Option (ℕ × ℕ) → Type 0
 PairMeans code None = NoneIn code
 PairMeans code (Some (s, l)) = LeastPair code s l
+
+module _ (code : List Instr) where
+  pub pair_found :
+      (s l : ℕ) → ((n : ℕ) → n < s → NoneAt code n) → LeastBelow (OpenIn code s) (length code) (Some l) → PairMeans code (Some (s, l))
+  pair_found s l stores least = record { is_open = least.holds; stores_before = stores; loads_before = least.before }
+
+  -- a store place that has no least load has none
+  pub none_at : (s : ℕ) → LeastBelow (OpenIn code s) (length code) None → NoneAt code s
+  none_at s nothing l o = nothing l (load_inside o.pair) o
+
+  pub pair_none : ((s : ℕ) → s < length code → NoneAt code s) → PairMeans code None
+  pair_none stores s l o = stores s (store_inside o.pair) l o
 
 -- The least pair of all threads.
 

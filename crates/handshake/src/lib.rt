@@ -22,7 +22,7 @@ fn search_words(a: Result<search::Answer, Fault>) -> [u64; 4]
     ensures { result ≡ search_meaning.words a }
 {
     match a {
-        Err(fault) => refused(fault),
+        Err(why) => refused(why),
         Ok(search::Answer::Reachable(d, states)) => [1, d as u64, states as u64, 0],
         Ok(search::Answer::Unreachable(states)) => [2, states as u64, 0, 0],
         Ok(search::Answer::Unknown(slots)) => [3, slots as u64, 0, 0],

@@ -5,10 +5,10 @@ mod goal; // goal.rt: the readers of the goal
 pub mod parts; // parts.rt: an accepted job, and its parts
 mod threads; // threads.rt: where the threads begin, and how long they are
 
-ghost use Rattle.std.specs.Prelude.{◌≡◌, IfOk, IfErr};
+ghost use Rattle.std.specs.Prelude.{◌≡◌, ℕ, IfOk, IfErr};
 ghost use Rattle.rules.specs.File as file;
 ghost use Rattle.readers.specs.Refusals.{number_of};
-ghost use Rattle.readers.specs.Passed.{came_to};
+ghost use Rattle.readers.specs.Passed.{At, came_to};
 ghost use Rattle.job.specs.Passed as passed;
 ghost use Rattle.job.specs.Stages.{rest_stage};
 ghost use Rattle.job.specs.Laid.{HeadGood, AcceptedUnder, IsAccepted};
@@ -63,6 +63,13 @@ fn behind_head(job: &[u8]) -> Result<usize, Fault>
     })
 }
 
+// The model that a byte names, where reading came to the end; a byte that names none is refused at its own place.
+fn model_named(k: u8) -> Result<Model, Fault>
+    ensures { (next : ℕ) → passed.came_out result ≡ passed.answer (At next) (file.model_of k) }
+{
+    readers::model(k).ok_or(Refusal::HeadOutOfRange.at(MODEL_AT))
+}
+
 // Any bytes: the length is judged first, then the fields from the front. The model of a job that is accepted.
 pub fn decode(job: &[u8]) -> Result<Model, Fault>
     ensures { passed.came_out result ≡ passed.answer_of (file.decode job.now) }
@@ -70,7 +77,7 @@ pub fn decode(job: &[u8]) -> Result<Model, Fault>
     readers::length_field(job)?;
     readers::head_fields(job)?;
     behind_head(job)?;
-    readers::model(job[MODEL_AT]).ok_or(Refusal::HeadOutOfRange.at(MODEL_AT))
+    model_named(job[MODEL_AT])
 }
 
 // The layout of a job that the decoder accepts, and the model that it then gives.

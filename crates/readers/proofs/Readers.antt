@@ -115,6 +115,9 @@ module _ (r : ℕ → Next) (i n at : ℕ) where
   pub repeated_fault : (number offset : ℕ) → i < n → r at ≡ Fault number offset → repeated (n - i) r at ≡ Fault number offset
   repeated_fault number offset h e = let m : n - i ≡ suc (n - (i + 1)) = omega arith in rw (m, e)
 
+  pub repeated_end : n ≤ i → repeated (n - i) r at ≡ At at
+  repeated_end h = let m : n - i ≡ 0 = omega arith in rw m
+
 -- the first of k items, and the others
 pub record Split {A : Type 0} (r : Reader A) (k at : ℕ) (l : List A) (next : ℕ) : Type 0 where
   pub head : A

@@ -106,6 +106,7 @@ pub fn field(job: &[u8], at: usize, refusal: Refusal, low: u8, high: u8) -> Resu
 }
 
 // C under a model.
+#[tactic(auto, unfolding(rules::specs::File::capacity_of))]
 fn capacity_under(job: &[u8], m: Model) -> Result<usize, Fault>
     ensures { came_to result ≡ passed (file.field job.now 3 (file.capacity_of m) capacity_at) }
 {

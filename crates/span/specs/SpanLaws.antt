@@ -3,7 +3,9 @@ use Rattle.std.specs.Prelude.{◌≡◌, refl, Bool, false, List, [], ◌∷◌,
 use Rattle.std.proofs.Common.{sym, ap, ◌∙◌, true≢false, append_assoc, append-nil, zero-add, add_assoc, add-one, arith, length-append, length-take, length-drop, take-add, take-take, drop-drop, drop-cons}
 use Rattle.std.proofs.Math.Seq.{take_at, drop_at, append_snoc, drop-length, take-length, paste-zero}
 use Rattle.std.proofs.lemmas.List.{set_split}
-use Rattle.span.specs.Span.{bytes_at, laid, Compared}
+use Rattle.std.proofs.lemmas.Slice.{put_mid-paste}
+use borrow.Rule.Slice.PartMut.{put_mid, same_len_mid}
+use Rattle.span.specs.Span.{bytes_at, laid, Laid, Compared}
 
 -- Bytes laid over a table.
 
@@ -39,6 +41,10 @@ pub laid_none : (table : List ℕ) (at : ℕ) → table ≡ laid table at []
 unfolding laid
 laid_none table at = paste-zero table at []
 
+pub laid_nothing : (table bytes : List ℕ) (at : ℕ) → length bytes ≡ 0 → Laid table table at bytes
+laid_nothing table [] at e = record { is = laid_none table at; size = refl }
+laid_nothing table (x ∷ b) at e = absurd (omega (arith, e))
+
 laid_one : (table : List ℕ) (at x : ℕ) → at < length table → set table at x ≡ laid table at (x ∷ [])
 unfolding laid
 laid_one table at x h = rw (set_split table at x h, append_snoc, add-one)
@@ -64,6 +70,16 @@ one_more table at n h = rw (drop-cons table at 0 h)
 
 pub bytes_at_number : (table : List ℕ) (at n : ℕ) → at + n ≤ length table → length (bytes_at table at n) ≡ n
 bytes_at_number table at n h = simp (length-take, length-drop) (omega arith)
+
+-- a part written anew lays what it then holds over the table
+pub laid_over : (table part bytes : List ℕ) (at k : ℕ) → part ≡ bytes → length bytes ≡ k → at + k ≤ length table
+    → Laid table (put_mid at k table part) at bytes
+unfolding laid
+laid_over table part bytes at k e n h =
+    record {
+      is = put_mid-paste _ _ _ _ _ _ e n refl ∙ rw take-length;
+      size = same_len_mid _ _ _ _ (ap length e ∙ n ∙ sym (bytes_at_number table at k h));
+    }
 
 -- a list filled with the table's bytes holds them
 pub filled : (out table : List ℕ) (at : ℕ) → at + length out ≤ length table

@@ -7,6 +7,7 @@ ghost use Rattle.std.specs.Prelude.{◌≡◌, ◌+◌, ◌≤◌, length};
 ghost use Rattle.span.specs.Span.{bytes_at, Laid, Compared};
 
 // Lays the bytes over the table from `at` on.
+#[tactic(auto, using(crate::specs::SpanLaws::laid_over, crate::specs::SpanLaws::laid_nothing))]
 pub fn put_bytes(table: &mut [u8], at: usize, bytes: &[u8])
     requires { at + length bytes.now ≤ length table.old }
     ensures { Laid table.old table.new at bytes.now }

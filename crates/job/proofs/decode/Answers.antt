@@ -1,14 +1,7 @@
 -- `job::decode` meets its contract: the length is judged first, and then the fields from the front.
-use mathlib.Core.Path.{◌≡◌, refl}
+use mathlib.Core.Path.{◌≡◌}
 use native.Mathlib.Omega.{arith}
-use Prim.Native.Nat.{ℕ}
-use Rattle.std.specs.Prelude.{Option, Some, None, ok_or}
-use Rattle.rules.specs.declared.Model.{Model}
-use Rattle.tables.specs.Told.{told}
-use Rattle.readers.specs.declared.faults.Fault as faults
-use Rattle.readers.specs.declared.faults.Refusal.TheVariants.{HeadOutOfRange}
-use Rattle.readers.specs.Passed.{At, model_at, then}
-use Rattle.job.specs.Passed.{came_out, answer}
+use Rattle.readers.specs.Passed.{At, then}
 use Rattle.readers.specs.Stages.{length_stage, head_stage}
 use Rattle.readers.proofs.Readers.{handed_on}
 use Rattle.job.proofs.StageLaws.{head_good}
@@ -38,12 +31,7 @@ returns-in_err-behind_head c =
 pub bounds-job-3 : goal.bounds-job-3
 bounds-job-3 c = omega (arith, (head_good _ _ (good (goal.at.bounds-job-3 c).In_ok-head_fields)).there)
 
--- under the model that was read, if there is one
-named : (o : Option Model) (f : faults.Fault) (next : ℕ) → f ≡ record { refusal = HeadOutOfRange; offset = model_at } → came_out (ok_or o f) ≡ answer (At next) (told o)
-named (Some m) f next e = refl
-named None f next e = rw e
-
 pub returns : goal.returns
 returns c =
-    rw (c.ok_or.ensures.value, decode_stages c.args.job.now, good (goal.at.returns c).In_ok-head_fields, ← c.in_ok-behind_head.ensures, ← c.model.ensures)
-    (named c.model.result c.at.result c.in_ok-behind_head.field-0 c.at.ensures)
+    rw (decode_stages c.args.job.now, good (goal.at.returns c).In_ok-head_fields, ← c.in_ok-behind_head.ensures)
+    (c.model_named.ensures c.in_ok-behind_head.field-0)

@@ -1,4 +1,5 @@
-use Rattle.std.proofs.Common.{ap, ◌∙◌, arith}
+use Rattle.std.proofs.Common.{◌≡◌, ◌+◌, ◌-◌, ap, ◌∙◌, arith}
+use Rattle.bits.specs.Bits.{count_of}
 use Rattle.engine.specs.At.{At}
 use Rattle.search.specs.Read.{read_at, read_is}
 use Rattle.search.specs.Walking.{walking_start, step_may, walking_step, walked, walked_full, expanded}
@@ -13,7 +14,11 @@ pub enabled-mask-requires : goal.enabled-mask-requires
 enabled-mask-requires c = at_slot c
 
 pub loop-s-init : goal.loop-s-init
-loop-s-init c = (walking_start _ _ _ _ _ _ (ap (λ z. z.left) c.into_iter-s-iterator.ensures.into_iter_gives ∙ c.each-s-items.ensures ∙ c.enabled-mask.ensures), c.requires.fits)
+loop-s-init c =
+    let members = c.into_iter-s-iterator.result in
+    let left_is = ap (λ z. z.left) c.into_iter-s-iterator.ensures.into_iter_gives ∙ c.each-s-items.ensures.left ∙ c.enabled-mask.ensures in
+    let none_tried : members.tries - members.tries ≡ 0 = omega arith in
+    (rw none_tried (walking_start _ _ _ _ _ _ _ left_is members.counted), c.requires.fits)
 
 pub put_next-at-requires : goal.put_next-at-requires
 put_next-at-requires c =
@@ -22,32 +27,39 @@ put_next-at-requires c =
       fits = c.loop-s.invariant.1;
       slot_in_range = omega (arith, c.requires.fits.few, c.requires.counted, c.requires.most);
       at = at_slot (goal.at.put_next-at-requires c).After-read_slot-x;
-      may_be_taken = step_may _ _ _ _ _ _ _ c.loop-s.invariant.0 _ step.1 step.0;
+      may_be_taken = step_may _ _ _ _ _ _ _ _ _ c.loop-s.invariant.0 _ step.1 step.0;
     }
 
 pub returns-then-at : goal.returns-then-at
 returns-then-at c =
     let step = c.in-Some.ensures.steps in
-    let walking = walking_step _ _ _ _ _ _ _ c.loop-s.invariant.0 _ step.1 step.0 _ step.2 _ c.put_next-at.ensures.put in
+    let walking = walking_step _ _ _ _ _ _ _ _ _ c.loop-s.invariant.0 _ step.1 step.0 _ step.2 _ c.put_next-at.ensures.put in
     record {
       few = c.put_next-at.ensures.few;
       ready = c.put_next-at.ensures.ready;
-      expanded = expanded _ _ _ _ _ _ (λ at. read_is _ c.args.job.now.in_range _ _ at _ c.read_slot-x.ensures) (walked_full _ _ _ _ _ _ _ walking c.if-at.true);
+      expanded = expanded _ _ _ _ _ _ (λ at. read_is _ c.args.job.now.in_range _ _ at _ c.read_slot-x.ensures) (walked_full _ _ _ _ _ _ _ _ _ walking c.if-at.true);
     }
 
 pub loop-s-preserved : goal.loop-s-preserved
 loop-s-preserved c =
     let step = c.in-Some.ensures.steps in
     let put = c.put_next-at in
-    let fits = c.loop-s.invariant.1 in (
-      walking_step _ _ _ _ _ _ _ c.loop-s.invariant.0 _ step.1 step.0 _ step.2 _ put.ensures.put,
+    let walking = c.loop-s.invariant.0 in
+    let fits = c.loop-s.invariant.1 in
+    let tries = c.into_iter-s-iterator.result.tries in
+    let before = c.loop-s.s-iterator in
+    let behind = c.next.new.self in
+    let one_more : tries - behind.tries ≡ tries - before.tries + 1 =
+    omega (arith, walking.number, before.counted.is, before.counted.one_less step.0, behind.counted.is, ap count_of step.2.is) in (
+      rw one_more (walking_step _ _ _ _ _ _ _ _ _ walking _ step.1 step.0 _ step.2 _ put.ensures.put),
       record { table = omega (arith, fits.table, put.auto.table); links = omega (arith, fits.links, put.auto.links); few = put.ensures.few; ready = put.ensures.ready },
     )
 
 pub returns : goal.returns
 returns c =
+    let none_left : c.loop-s.s-iterator.tries ≡ 0 = c.loop-s.s-iterator.counted.empty c.in-None.ensures.steps.0 in
     record {
       few = c.loop-s.invariant.1.few;
       ready = c.loop-s.invariant.1.ready;
-      expanded = expanded _ _ _ _ _ _ (λ at. read_is _ c.args.job.now.in_range _ _ at _ c.read_slot-x.ensures) (walked _ _ _ _ _ _ _ c.loop-s.invariant.0 c.in-None.ensures.steps.0);
+      expanded = expanded _ _ _ _ _ _ (λ at. read_is _ c.args.job.now.in_range _ _ at _ c.read_slot-x.ensures) (walked _ _ _ _ _ _ _ _ _ c.loop-s.invariant.0 (omega (arith, none_left)));
     }

@@ -1,8 +1,8 @@
--- A call takes one number off, so one fewer is left.
-use mathlib.Core.Path.{◌≡◌, refl, ap}
-use Prim.Native.Nat.{ℕ, zero, suc, ◌^◌, ◌<◌}
+-- The tries are the set's numbers: where none is left the set is empty, and a call takes one of both.
+use mathlib.Core.Path.{◌≡◌, refl, ap, subst}
+use Prim.Native.Nat.{ℕ, zero, suc, ◌-◌, ◌^◌, ◌<◌}
 use native.Mathlib.Omega.{arith}
-use Rattle.bits.specs.Bits.{width, count_of}
+use Rattle.bits.specs.Bits.{width, count_of, Counted}
 use Rattle.bits.proofs.BitLaws.{count_law}
 use Rattle.bits.proofs.MembersIterator.next.Goals as goal
 
@@ -11,15 +11,10 @@ some_of : (m n : ℕ) → (m ≡ 0 → n ≡ 0) → ¬ (n ≡ 0) → 0 < m
 some_of zero n empty some = absurd (some (empty refl))
 some_of (suc m) n empty some = omega arith
 
-pub returns-clause-goes : goal.returns-clause-goes
-returns-clause-goes c =
-    let m = c.args.self.now.left in
-    let fits : m < 2 ^ width = omega arith in
-    let some : 0 < m = some_of m c.count.result c.count.ensures.empty c.if-count-eq0.false in
-    let one_less = (count_law m fits).one_less some in
-    let left = ap count_of c.without_lowest-self.ensures.is in
-    record {
-      on = λ ends. (tt, ends, omega (arith, one_less, left));
-      keeps = tt;
-      rests = λ ends. tt;
-    }
+pub invariant_of-self : goal.invariant_of-self
+invariant_of-self c =
+    let members = c.args.self.now in
+    let left = c.without_lowest-self.result in
+    let some : 0 < members.left = some_of _ _ members.counted.empty c.if-self-eq0.false in
+    let one_less : count_of left ≡ members.tries - 1 = omega (arith, members.counted.one_less some, ap count_of c.without_lowest-self.ensures.is) in
+    record { counted = subst (Counted left) one_less (count_law left (omega arith)) }
