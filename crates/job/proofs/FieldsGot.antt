@@ -8,6 +8,8 @@ use native.Mathlib.Omega.{arith}
 use borrow.Author.Tests.{eqb-true}
 use lib.Dec.{eqb}
 use lib.ListN.{length, get_or}
+use Rattle.std.specs.Prelude.{Result, Err}
+use Rattle.std.specs.Result.{IsErrAnd}
 use Rattle.reach.specs.ListLaws.{at_get_or}
 use Rattle.rules.specs.Limits.{first_version, last_version, most_threads, most_variables, most_pending, length_size, head_size, value_size, item_size}
 use Rattle.rules.specs.Job.{Job}
@@ -17,12 +19,13 @@ use Rattle.rules.specs.declared.Model.TheVariants.{Sc, Tso, Pso}
 use Rattle.rules.specs.declared.Instr.{Instr}
 use Rattle.rules.specs.declared.Clause.{Clause}
 use Rattle.job.specs.declared.Starts.{Starts}
-use Rattle.readers.specs.Passed.{At, Fault, version_at, model_at, capacity_at, threads_at, variables_at, count_in, version_in, vars_in, model_in, passed, listed, then}
+use Rattle.readers.specs.Passed.{At, Fault, came_to, version_at, model_at, capacity_at, threads_at, variables_at, count_in, version_in, vars_in, model_in, passed, listed, then}
 use Rattle.readers.specs.Stages.{length_stage, head_stage}
-use Rattle.job.specs.Passed.{answer, answer_of}
+use Rattle.readers.specs.declared.faults.Fault as faults
+use Rattle.job.specs.Passed.{came_out, answer, answer_of}
 use Rattle.job.specs.Stages.{width_in, values_end, threads_read, threads_of, rest_stage}
 use Rattle.job.specs.Laid.{HeadGood, ThreadsGood, StartsLaid, GoalLaid, Laid}
-use Rattle.readers.proofs.Readers.{items_laid, then_got, times_length}
+use Rattle.readers.proofs.Readers.{handed_on, items_laid, then_got, times_length}
 use Rattle.readers.proofs.Fields.{range_got, field_then, range_then}
 use Rattle.job.proofs.StageLaws.{values_then, fields_passed}
 
@@ -115,6 +118,13 @@ module _ (bytes : List ℕ) where
           ≡ answer (then (then (cond b (At version_at) (Fault 1 0)) (head_stage bytes)) (rest_stage bytes)) (model_in bytes)
       go true = read_to (fields bytes length_size) refl ∙ ap (λ n. answer n (model_in bytes)) (fields_passed bytes)
       go false = refl
+
+  -- the first fault is what decoding comes to: the length's, and behind a good length the head's
+  pub length_fault : (x : Result Model faults.Fault) (f : faults.Fault) → IsErrAnd x (λ e. e ≡ f) → came_to (Err f) ≡ length_stage bytes → came_out x ≡ answer_of (decode bytes)
+  length_fault x f h e = rw (handed_on x f h, decode_stages, ← e)
+
+  pub head_fault : (f : faults.Fault) → came_to (Err f) ≡ head_stage bytes → (x : Result Model faults.Fault) → IsErrAnd x (λ e. e ≡ f) → (p : ℕ) → At p ≡ length_stage bytes → came_out x ≡ answer_of (decode bytes)
+  head_fault f g x h p e = rw (handed_on x f h, decode_stages, ← e, ← g)
 
   accepted_fields : (j : Job) → decode bytes ≡ accepted j → Fields j
   unfolding decode decoded
