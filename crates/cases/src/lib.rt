@@ -1,7 +1,7 @@
 // What the case programs share: how a case is read from standard input. Its numbers are big-endian.
 #![tactic(auto)]
 
-ghost use Rattle.std.specs.Prelude.{◌<◌, ◌≤◌, ◌^◌, IfErr, IfOk, OnOk, length};
+ghost use Rattle.std.specs.Prelude.{◌≡◌, ◌<◌, ◌≤◌, ◌^◌, IfErr, IfOk, length};
 
 use std::io;
 use std::io::{ErrorKind, Read};
@@ -60,9 +60,10 @@ fn read_up_to(rt: &HostRuntime, part: &mut [u8]) -> usize
     end
 }
 
-// Reads so many bytes to the front of the room. Where there is no room for all, none is read.
-pub fn read_front(rt: &HostRuntime, room: &mut [u8], count: usize) -> Result<(), Short>
-    ensures whole { OnOk result (count ≤ length room.new) }
+// Reads so many bytes to the front of the room, and answers how many there were. Where there is no room for all, none is read.
+pub fn read_front(rt: &HostRuntime, room: &mut [u8], count: usize) -> Result<usize, Short>
+    ensures whole { IfOk result (λ end. end ≡ count) }
+    ensures in_room { IfOk result (λ end. end ≤ length room.new) }
     ensures short { IfErr result (λ s. s.end < count) }
     ensures end_in_bounds { IfErr result (λ s. s.end ≤ length room.new) }
 {
@@ -73,7 +74,7 @@ pub fn read_front(rt: &HostRuntime, room: &mut [u8], count: usize) -> Result<(),
     if end < count {
         return Err(Short { end });
     }
-    Ok(())
+    Ok(end)
 }
 
 // Reads a job, which stands behind the count of its bytes, to the front of the room, and answers that count.
