@@ -56,6 +56,11 @@ pub data Next : Type 0 where
   At : ℕ → Next
   Fault : (number offset : ℕ) → Next
 
+-- what a reader in code comes to, by what its caller's answers stand for
+abbrev pub outcome : {E : Type 0} → (E → Next) → Result ℕ E → Next
+outcome n (Ok at) = At at
+outcome n (Err e) = n e
+
 -- what a reader in code answers
 abbrev pub came_to : Result ℕ faults.Fault → Next
 came_to (Ok at) = At at

@@ -6,7 +6,7 @@ ghost use Rattle.rules.specs.Limits.{width_of, value_size, item_size, longest_fi
 ghost use Rattle.rules.specs.File as file;
 ghost use Rattle.tables.specs.Told.{told};
 ghost use Rattle.readers.specs.Refusals.{number_of};
-ghost use Rattle.readers.specs.Passed.{Next, came_to, Reads, repeated, ItemAt, capacity_at, passed, instruction_in_bytes};
+ghost use Rattle.readers.specs.Passed.{Next, Fault as FaultAt, outcome, came_to, Reads, repeated, ItemAt, capacity_at, passed, instruction_in_bytes};
 ghost use Rattle.readers.specs.Stages.{length_stage, capacity_stage, head_stage};
 
 pub mod faults; // the refusals, and where they are given
@@ -90,19 +90,35 @@ pub fn length_field(job: &[u8]) -> Result<usize, Fault>
     }
 }
 
-// A field is one byte from low to high, else it is refused.
-pub fn field(job: &[u8], at: usize, refusal: Refusal, low: u8, high: u8) -> Result<usize, Fault>
-    ensures { came_to result ≡ passed (file.field job.now (number_of refusal) (file.in_range low high) at) }
+// A field is one byte from low to high: where the next item begins, or the caller's own answer to a byte that is not there, and to one that is not in
+// that range, whatever numbers these stand for.
+pub fn field_or<E: Copy>(
+    job: &[u8],
+    at: usize,
+    missing: E,
+    wrong: E,
+    low: u8,
+    high: u8,
+) -> Result<usize, E>
+    ensures { (number : ℕ) (n : E → Next) → n missing ≡ FaultAt 6 at → n wrong ≡ FaultAt number at →
+        outcome n result ≡ passed (file.field job.now number (file.in_range low high) at) }
 {
     if job.len() <= at {
-        return Err(Refusal::NotWhole.at(at));
+        return Err(missing);
     }
     let k = job[at];
     if (low <= k) & (k <= high) {
         Ok(at + 1)
     } else {
-        Err(refusal.at(at))
+        Err(wrong)
     }
+}
+
+// A field is one byte from low to high, else it is refused.
+pub fn field(job: &[u8], at: usize, refusal: Refusal, low: u8, high: u8) -> Result<usize, Fault>
+    ensures { came_to result ≡ passed (file.field job.now (number_of refusal) (file.in_range low high) at) }
+{
+    field_or(job, at, Refusal::NotWhole.at(at), refusal.at(at), low, high)
 }
 
 // C under a model.

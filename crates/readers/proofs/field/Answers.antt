@@ -1,13 +1,19 @@
--- `readers::field` meets its contract: the test on the length tells whether the byte is there, the other one whether it is in its range.
-use mathlib.Core.Path.{sym}
-use Rattle.readers.proofs.Fields.{field_missing, field_there}
+-- `readers::field` meets its contract: a fault stands for its refusal's number and its offset.
+use mathlib.Core.Path.{◌≡◌, refl, ap, ◌∙◌}
+use native.Mathlib.Omega.{arith}
+use Prim.Native.Nat.{ℕ}
+use Rattle.std.specs.Prelude.{Result, Ok, Err}
+use Rattle.readers.specs.declared.faults.Fault as faults
+use Rattle.readers.specs.Refusals.{number_of}
+use Rattle.readers.specs.Passed.{Next, Fault, outcome, came_to}
 use Rattle.readers.proofs.field.Goals as goal
 
-pub returns-then-job-at : goal.returns-then-job-at
-returns-then-job-at c = rw c.at.ensures (sym (field_missing _ _ _ _ c.if-job-at.true))
+abbrev stands_for : faults.Fault → Next
+stands_for f = Fault (number_of f.refusal) f.offset
 
-pub returns-then-low-k : goal.returns-then-low-k
-returns-then-low-k c = rw (field_there _ _ _ _ _ c.if-job-at.false, c.if-low-k.true)
+came_outcome : (x : Result ℕ faults.Fault) → came_to x ≡ outcome stands_for x
+came_outcome (Ok at) = refl
+came_outcome (Err f) = refl
 
-pub returns-else-low-k : goal.returns-else-low-k
-returns-else-low-k c = rw (field_there _ _ _ _ _ c.if-job-at.false, c.if-low-k.false, c.at-else-low-k.ensures)
+pub returns : goal.returns
+returns c = came_outcome _ ∙ c.field_or.ensures _ stands_for (ap stands_for c.at.ensures) (ap stands_for c.at-2.ensures ∙ ap (Fault _) (omega arith))
