@@ -15,5 +15,8 @@ came_outcome : (x : Result ℕ faults.Fault) → came_to x ≡ outcome stands_fo
 came_outcome (Ok at) = refl
 came_outcome (Err f) = refl
 
+at_offset : (number o at : ℕ) (x : Next) → x ≡ Fault number o → o ≡ at → x ≡ Fault number at
+at_offset number o at x e same = e ∙ ap (Fault number) same
+
 pub returns : goal.returns
-returns c = came_outcome _ ∙ c.field_or.ensures _ stands_for (ap stands_for c.at.ensures) (ap stands_for c.at-2.ensures ∙ ap (Fault _) (omega arith))
+returns c = came_outcome _ ∙ c.field_or.ensures _ stands_for (ap stands_for c.at.ensures) (at_offset _ _ _ _ (ap stands_for c.at-2.ensures) (omega arith))
